@@ -31,12 +31,13 @@ fn say_fault(answer: &mut Answer, fault: &str) {
 
 // Runs a statement, and says its fault. Answers whether the session goes on.
 #[tactic(auto, using(crate::proofs::Served::served_still))]
-fn step<L: Ledger>(
+fn step<L: Ledger, M: Ledger>(
     session: &mut Session,
     statement: &Statement,
     number: u64,
     watchers: &mut Vec<Option<Box<dyn Watcher>>>,
     steps: &mut Steps<L>,
+    runs: &mut Steps<M>,
     answer: &mut Answer,
 ) -> bool
     requires made { IsWellMade (statement_of statement.now) }
@@ -46,7 +47,7 @@ fn step<L: Ledger>(
         AreServed session.new.state.watches (slots_by (λ b. seen b) watchers.new.items) }
 {
     let mut printed = Vec::new(answer.alloc);
-    match session.step(statement, number, &mut printed, watchers, steps) {
+    match session.step(statement, number, &mut printed, watchers, steps, runs) {
         Ok(()) => true,
         Err(StepFault::Script(fault)) => {
             say_fault(answer, fault_text(fault));
@@ -64,12 +65,13 @@ fn step<L: Ledger>(
 }
 
 // Runs the statement of a text, and says its fault. Answers whether the session goes on.
-fn run_text<L: Ledger>(
+fn run_text<L: Ledger, M: Ledger>(
     session: &mut Session,
     text: &[u8],
     number: u64,
     watchers: &mut Vec<Option<Box<dyn Watcher>>>,
     steps: &mut Steps<L>,
+    runs: &mut Steps<M>,
     answer: &mut Answer,
 ) -> bool
     requires small { length text.now ≤ 65536 }
@@ -79,7 +81,7 @@ fn run_text<L: Ledger>(
         AreServed session.new.state.watches (slots_by (λ b. seen b) watchers.new.items) }
 {
     match read(answer.alloc, text) {
-        Ok(statement) => step(session, &statement, number, watchers, steps, answer),
+        Ok(statement) => step(session, &statement, number, watchers, steps, runs, answer),
         Err(fault) => {
             say_fault(answer, refused(fault));
             true
@@ -87,12 +89,13 @@ fn run_text<L: Ledger>(
     }
 }
 
-fn run_piece<L: Ledger>(
+fn run_piece<L: Ledger, M: Ledger>(
     session: &mut Session,
     piece: &Piece,
     number: u64,
     watchers: &mut Vec<Option<Box<dyn Watcher>>>,
     steps: &mut Steps<L>,
+    runs: &mut Steps<M>,
     answer: &mut Answer,
 ) -> bool
     requires { AreServed session.old.state.watches (slots_by (λ b. seen b) watchers.old.items) }
@@ -100,7 +103,10 @@ fn run_piece<L: Ledger>(
         AreServed session.new.state.watches (slots_by (λ b. seen b) watchers.new.items) }
 {
     match piece {
-        Piece::Whole(cut) => run_text(session, cut.text.bytes(), number, watchers, steps, answer),
+        Piece::Whole(cut) => {
+            let text = cut.text.bytes();
+            run_text(session, text, number, watchers, steps, runs, answer)
+        }
         Piece::TooLong { .. } => {
             say_fault(answer, "too long");
             true
@@ -110,23 +116,37 @@ fn run_piece<L: Ledger>(
 
 // Runs the statements, and says how many arrays there are then.
 #[tactic(auto, using(crate::proofs::Served::served_first))]
-fn run_pieces<L: Ledger>(
+fn run_pieces<L: Ledger, M: Ledger>(
     pieces: &[Piece],
     watchers: &mut Vec<Option<Box<dyn Watcher>>>,
     answer: &mut Answer,
     blank: Blank,
+    runs: Blank,
 )
     requires open { AreOpen (slots_by (λ b. seen b) watchers.old.items) }
     requires few { length watchers.old.items ≤ slots_limit }
     requires name { blank.name ≡ L.name }
     requires parts { blank.parts ≡ L.parts }
     requires some { 0 < blank.parts }
+    requires runs_name { runs.name ≡ M.name }
+    requires runs_parts { runs.parts ≡ M.parts }
+    requires runs_some { 0 < runs.parts }
 {
     let mut session = Session::new(answer.alloc);
     let mut steps = new_steps::<L>(blank);
+    let mut runs = new_steps::<M>(runs);
     for (index, piece) in pieces.iter().enumerate() {
         let number = (index as u64).saturating_add(1);
-        if !run_piece(&mut session, piece, number, watchers, &mut steps, answer) {
+        let goes_on = run_piece(
+            &mut session,
+            piece,
+            number,
+            watchers,
+            &mut steps,
+            &mut runs,
+            answer,
+        );
+        if !goes_on {
             return;
         }
     }
@@ -143,7 +163,7 @@ pub fn run_over(
     requires open { AreOpen (slots_by (λ b. seen b) watchers.old.items) }
     requires few { length watchers.old.items ≤ slots_limit }
 {
-    run_pieces::<Brand>(pieces, watchers, answer, Blank::new(1));
+    run_pieces::<Brand, Brand>(pieces, watchers, answer, Blank::new(1), Blank::new(1));
     Some(())
 }
 

@@ -38,6 +38,7 @@ fn form(statement: &Statement) -> &'static str {
         Statement::Undef { .. } => "undef",
         Statement::Vars => "vars",
         Statement::Dump => "dump",
+        Statement::Flow { .. } => "flow",
         Statement::PpDef { .. } => "pp_def",
         Statement::Watch { .. } => "watch",
         Statement::Unwatch { .. } => "unwatch",

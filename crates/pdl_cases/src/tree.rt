@@ -140,6 +140,11 @@ pub fn say_statement(answer: &mut Answer, statement: &Statement) {
             answer.say(" ");
             say_args(answer, sizes.as_slice());
         }
+        Statement::Flow { name, value } => {
+            say_behind(answer, "flow ", name.bytes());
+            answer.say(" ");
+            say_expr(answer, value);
+        }
         Statement::PpDef {
             name,
             signature,

@@ -54,6 +54,14 @@ is_large _ = false
 abbrev pub has_large : List Lexeme → Bool
 has_large ts = list_any is_large ts
 
+abbrev pub is_arrow : Lexeme → Bool
+is_arrow Arrow = true
+is_arrow _ = false
+
+-- whether an arrow is among them
+abbrev pub has_arrow : List Lexeme → Bool
+has_arrow ts = list_any is_arrow ts
+
 -- whether a list that is read is ragged
 abbrev pub without_shape : Option (List ℕ) → Bool
 without_shape None = true

@@ -13,7 +13,7 @@ use Rattle.pdl_lexemes.specs.declared.AssignOp.{AssignOp}
 use Rattle.pdl_lexemes.specs.declared.AssignOp.TheVariants.{Set, With}
 use Rattle.pdl_lexemes.specs.declared.Span.{Span}
 use Rattle.pdl_lexemes.specs.declared.Keyword.{Keyword as Key}
-use Rattle.pdl_lexemes.specs.declared.Keyword.TheVariants.{My, Print, Undef, Vars, Dump, PpDef, Watch, Unwatch, Pdl, Info, Sever, Reshape}
+use Rattle.pdl_lexemes.specs.declared.Keyword.TheVariants.{My, Print, Undef, Vars, Dump, Flow, PpDef, Watch, Unwatch, Pdl, Info, Sever, Reshape}
 use Rattle.pdl_lexemes.specs.declared.WordKind.{WordKind}
 use Rattle.pdl_lexemes.specs.declared.WordKind.TheVariants.{OfType, View, Pars, Code, Plain}
 use Rattle.pdl_lexemes.specs.declared.Lexeme.{Lexeme}
@@ -24,8 +24,8 @@ use Rattle.pdl_lexemes.specs.Bytes.{bytes_at}
 abbrev pub keywords : List (List ℕ × Key)
 keywords =
     (codes "my", My) ∷ (codes "p", Print) ∷ (codes "print", Print) ∷ (codes "undef", Undef)
-    ∷ (codes "vars", Vars) ∷ (codes "dump", Dump) ∷ (codes "pp_def", PpDef)
-    ∷ (codes "watch", Watch) ∷ (codes "unwatch", Unwatch) ∷ (codes "pdl", Pdl)
+    ∷ (codes "vars", Vars) ∷ (codes "dump", Dump) ∷ (codes "flow", Flow)
+    ∷ (codes "pp_def", PpDef) ∷ (codes "watch", Watch) ∷ (codes "unwatch", Unwatch) ∷ (codes "pdl", Pdl)
     ∷ (codes "info", Info) ∷ (codes "sever", Sever) ∷ (codes "reshape", Reshape) ∷ []
 
 -- the words beside those of the types that are something beside the name of a call

@@ -2,7 +2,7 @@
 
 ghost use Rattle.std.specs.Prelude.{◌≡◌, ◌≤◌, ◌+◌, ◌<◌, length};
 ghost use Rattle.pdl_lex.specs.Limits.{statement_limit};
-ghost use Rattle.pdl_lexemes.specs.Depth.{with_operator, counted_to, is_beyond, is_too_deep, is_large, has_large};
+ghost use Rattle.pdl_lexemes.specs.Depth.{with_operator, counted_to, is_beyond, is_too_deep, is_large, has_large, is_arrow, has_arrow};
 
 use crate::Lexeme;
 use pdl_lex::MOST_OPEN;
@@ -116,6 +116,27 @@ pub fn has_large(tokens: &[Lexeme]) -> bool
 {
     for lexeme in tokens {
         if is_large(*lexeme) {
+            return true;
+        }
+    }
+    false
+}
+
+fn is_arrow(lexeme: Lexeme) -> bool
+    ensures { result ≡ is_arrow lexeme }
+{
+    match lexeme {
+        Lexeme::Arrow => true,
+        _ => false,
+    }
+}
+
+/// Whether an arrow is among them.
+pub(crate) fn has_arrow(tokens: &[Lexeme]) -> bool
+    ensures { result ≡ has_arrow tokens.now }
+{
+    for lexeme in tokens {
+        if is_arrow(*lexeme) {
             return true;
         }
     }

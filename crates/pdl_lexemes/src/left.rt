@@ -2,7 +2,7 @@
 
 ghost use Rattle.std.specs.Prelude.{◌≡◌, ◌≤◌, length, nat_eq, is_ok, IfErr, None, Some, if◌then◌else◌};
 ghost use Rattle.pdl_lex.specs.Limits.{statement_limit};
-ghost use Rattle.pdl_lexemes.specs.Depth.{is_too_deep};
+ghost use Rattle.pdl_lexemes.specs.Depth.{is_too_deep, has_arrow};
 ghost use Rattle.pdl_lexemes.specs.Squares.{AreFew, joined};
 
 use crate::{Lexeme, Refusal, checks};
@@ -75,6 +75,14 @@ impl<'a> Lexemes<'a> {
     {
         self.list.is_empty()
     }
+
+    /// Whether an arrow is among them.
+    pub fn has_arrow(&self) -> bool
+        ensures { result ≡ has_arrow self.now }
+    {
+        checks::has_arrow(self.list)
+    }
+
     /// `Refused` where something is left.
     pub fn end(&self) -> Result<(), Refusal>
         ensures ok { is_ok result ≡ nat_eq (length self.now) 0 }

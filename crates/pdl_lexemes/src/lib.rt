@@ -51,6 +51,7 @@ pub enum Keyword {
     Undef,
     Vars,
     Dump,
+    Flow,
     PpDef,
     Watch,
     Unwatch,

@@ -11,6 +11,7 @@ pub(crate) const KEYWORDS: &[(&[u8], Keyword)] = &[
     (b"undef", Keyword::Undef),
     (b"vars", Keyword::Vars),
     (b"dump", Keyword::Dump),
+    (b"flow", Keyword::Flow),
     (b"pp_def", Keyword::PpDef),
     (b"watch", Keyword::Watch),
     (b"unwatch", Keyword::Unwatch),

@@ -1,5 +1,5 @@
 -- A dump doesn't tell arrays by their numbers.
-use Rattle.std.proofs.Common.{◌≡◌, ℕ, suc, ◌+◌, ◌<◌, ◌≤◌, List, [], ◌∷◌, map, length, Bool, true, false, Some, None, Result, Ok, Err, refl, sym, ap, ◌∙◌, arith}
+use Rattle.std.proofs.Common.{◌≡◌, ℕ, suc, ◌+◌, ◌<◌, ◌≤◌, List, [], ◌∷◌, map, length, Bool, true, false, Some, None, Result, Err, refl, ap, ◌∙◌, arith}
 use Rattle.std.specs.Prelude.{◌==◌, nat_lt, is_some, if◌then◌else◌, option_map}
 use Rattle.std.specs.List.{list_any}
 use Rattle.std.proofs.lemmas.Bool.{eqb-true, eqb-false, ltb-true, ltb-false}
@@ -8,12 +8,14 @@ use Rattle.pdl_world.specs.World.{World, ArrayDef, root, view}
 use Rattle.pdl_image.specs.Lines.{Line}
 use Rattle.pdl_image.specs.Dump.{dump}
 use Rattle.pdl_machine.specs.declared.fault.Fault.{Fault}
-use Rattle.pdl_machine.specs.declared.fault.Fault.TheVariants.{StillWatched, TooManyNames}
+use Rattle.pdl_machine.specs.declared.fault.Fault.TheVariants.{DumpFlow, StillWatched, TooManyNames}
 use Rattle.pdl_machine.specs.Names.{KernelTexts, Named, Names, names_limit}
+use Rattle.std.proofs.lemmas.List.{length-map}
+use Rattle.pdl_machine.specs.Flows.{Flows, flow_by}
 use Rattle.pdl_machine.specs.State.{State, kept}
 use Rattle.pdl_machine.specs.Watches.{Watches}
 use Rattle.pdl_machine.specs.Tidy.{older, renumber, renumbered, with_parent}
-use Rattle.pdl_machine.specs.Dumps.{definition, lines_of, dump_lines, text_within, dumped}
+use Rattle.pdl_machine.specs.Dumps.{definition, dump_lines, text_within, dumped}
 use Rattle.pdl_machine.specs.DumpLaws.{DumpsNameByNumbers}
 use Rattle.pdl_machine.proofs.Renamed.{IsApart, Renames, empty, same, StateAlike}
 use Rattle.pdl_machine.proofs.Tidying.{renamed, length-renamed, renumber_renamed, names_renamed}
@@ -51,9 +53,10 @@ attached_alike g [] = refl
 attached_alike g (None ∷ ws) = attached_alike g ws
 attached_alike g (Some v ∷ ws) = refl
 
-abbrev text_by : (watched : Bool) (arrays names : ℕ) → List Line → Result (List ℕ) Fault
-text_by watched arrays names lines =
+abbrev text_by : (watched : Bool) (flows arrays names : ℕ) → List Line → Result (List ℕ) Fault
+text_by watched flows arrays names lines =
     if watched then Err StillWatched
+    else if nat_lt 0 flows then Err DumpFlow
     else if nat_lt names_limit (arrays + names + 1) then Err TooManyNames
     else text_within lines
 
@@ -64,10 +67,11 @@ dumped_alike g s t h =
     let arrays : length t.arrays.world ≡ length s.arrays.world = ap length (all_renamed g h.arrays.world) ∙ length-renamed g s.arrays.world in
     let names : length t.names.arrays ≡ length s.names.arrays =
     ap (λ (n : Names). length n.arrays) h.names ∙ length-numbers g s.names.arrays in
-    all_same watched arrays names (lines_alike g s t h)
+    let flows : length t.flows ≡ length s.flows = ap (λ (fs : Flows). length fs) h.flows ∙ length-map s.flows (flow_by g) in
+    all_same watched flows arrays names (lines_alike g s t h)
   where
-    all_same : {a b : Bool} {c d m n : ℕ} {ls ks : List Line} → a ≡ b → c ≡ d → m ≡ n → ls ≡ ks → text_by a c m ls ≡ text_by b d n ks
-    all_same p q r o = cc
+    all_same : {a b : Bool} {c d i j m n : ℕ} {ls ks : List Line} → a ≡ b → i ≡ j → c ≡ d → m ≡ n → ls ≡ ks → text_by a i c m ls ≡ text_by b j d n ks
+    all_same p f q r o = cc
 
 -- ---- numbers of a tidied state
 

@@ -4,12 +4,14 @@ pub mod Both
 pub mod Stepping
 pub mod DumpLemmas
 pub mod Effects
+pub mod FlowLemmas
 pub mod Tidying
 pub mod Numbering
 pub mod Orderly
 pub mod Watching
 pub mod Quiet
 pub mod Steps
+pub mod Needed
 pub mod Presence
 pub mod Counted
 pub mod MeaningLemmas
@@ -17,6 +19,11 @@ pub mod RunLemmas
 pub mod Rising
 pub mod SoFar
 pub mod Telling
+pub mod FlowMoves
+pub mod FlowFollows
+pub mod FlowsAffected
+pub mod FlowsTidied
+pub mod FlowKeeps
 pub mod SpelledNames
 pub mod SpelledViews
 pub mod SpelledValues

@@ -7,11 +7,17 @@ use Rattle.pdl_world.specs.World.{World, ArrayDef, root, view, Look}
 use Rattle.pdl_world.specs.Sound.{NumbersBelow, IsSound, IsLive, IsAllowed}
 use Rattle.pdl_world.specs.Swept.{is_listed, parents, kept_onto, sweep}
 use Rattle.pdl_machine.specs.Names.{KernelTexts, Named, Names}
-use Rattle.pdl_machine.specs.State.{State, held, IsSwept, AreLive, IsWhole}
+use Rattle.pdl_flow.specs.Formula.{FormulaTree, number, array, unary, binary, convert, arrays_in}
+use Rattle.pdl_machine.specs.Arrays.{Arrays}
+use Rattle.pdl_machine.specs.Flows.{Flows, all_read, formula_by, flow_by, is_reached, Needs, with_flow, needs_of}
+use Rattle.pdl_machine.specs.Following.{AreOlder, AreFlows}
+use Rattle.pdl_machine.specs.State.{State, held, needs, kept, IsSwept, AreLive, IsWhole}
 use Rattle.pdl_machine.specs.Watches.{Watches, attached}
-use Rattle.pdl_machine.specs.Tidy.{older, with_parent, renumber, renumbered, tidy}
+use Rattle.pdl_machine.specs.Tidy.{older, with_parent, renumber, renumbered, settled, tidy}
 use Rattle.pdl_machine.proofs.Renamed.{IsApart, Renames, empty, more, same, look-other, StateAlike}
+use Rattle.pdl_world.specs.Paths.{path}
 use Rattle.pdl_machine.proofs.Tidying.{renamed}
+use Rattle.pdl_machine.proofs.FlowLemmas.{flow_of, listed_front, listed_back, first_listed, held_needed, path_kept}
 
 -- whether the world has the number
 abbrev pub in_world : World → ℕ → Bool
@@ -262,20 +268,33 @@ names_restored g f w hs (n ∷ names) inside live all_held =
 abbrev pub bound_in : Names → List ℕ
 bound_in names = map (λ n. n.1) names.arrays
 
--- numbers are in order, and all that names and watches reach is there
+-- numbers are in order, and all that names, watches and formulas have is there
 pub record IsInOrder (s : State) : Type 0 where
   pub orderly : IsOrderly s.arrays.world
   pub below : NumbersBelow s.arrays.next s.arrays.world
   pub inside : AreIn s.arrays.world (bound_in s.names)
   pub watched : AreIn s.arrays.world (attached s.watches)
+  pub read : AreIn s.arrays.world (all_read s.flows)
 
-front_in : (w : World) (vs us : List ℕ) → AreIn w (vs ++ us) → AreIn w vs
+pub front_in : (w : World) (vs us : List ℕ) → AreIn w (vs ++ us) → AreIn w vs
 front_in w [] us h = tt
 front_in w (v ∷ vs) us h = (h.0, front_in w vs us h.1)
 
-back_in : (w : World) (vs us : List ℕ) → AreIn w (vs ++ us) → AreIn w us
+pub back_in : (w : World) (vs us : List ℕ) → AreIn w (vs ++ us) → AreIn w us
 back_in w [] us h = h
 back_in w (v ∷ vs) us h = back_in w vs us h.1
+
+pub append_in : (w : World) (vs us : List ℕ) → AreIn w vs → AreIn w us → AreIn w (vs ++ us)
+append_in w [] us h k = k
+append_in w (v ∷ vs) us h k = (h.0, append_in w vs us h.1 k)
+
+older_in : (w : World) (r : ℕ) (ks : List ℕ) → AreOlder w r ks → AreIn w ks
+older_in w r [] h = tt
+older_in w r (k ∷ ks) h = (live_inside w k h.1, older_in w r ks h.2)
+
+pub flows_in : (a : Arrays) (flows : Flows) → AreFlows a flows → AreIn a.world (all_read flows)
+flows_in a [] h = tt
+flows_in a (f ∷ flows) h = append_in a.world (arrays_in f.formula) (all_read flows) (older_in a.world f.root (arrays_in f.formula) h.0.older) (flows_in a flows h.2)
 
 pub in_order : (s : State) → IsWhole s → IsInOrder s
 in_order s whole =
@@ -285,15 +304,8 @@ in_order s whole =
       below = whole.below;
       inside = front_in s.arrays.world (bound_in s.names) (attached s.watches) all;
       watched = back_in s.arrays.world (bound_in s.names) (attached s.watches) all;
+      read = flows_in s.arrays s.flows whole.flows;
     }
-
-pub holds_front : (vs us : List ℕ) (k : ℕ) → is_listed vs k ≡ true → is_listed (vs ++ us) k ≡ true
-holds_front [] us k h = cc
-holds_front (v ∷ vs) us k h = by_test (v == k) (λ same. rw same refl) (λ other. let t : is_listed vs k ≡ true = rw other at h in rw other (holds_front vs us k t))
-
-pub holds_back : (vs us : List ℕ) (k : ℕ) → is_listed us k ≡ true → is_listed (vs ++ us) k ≡ true
-holds_back [] us k h = h
-holds_back (v ∷ vs) us k h = by_test (v == k) (λ same. rw same refl) (λ other. rw other (holds_back vs us k h))
 
 -- watches with the new numbers, and then with the former ones
 watches_restored : (g f : ℕ → ℕ) (w : World) (hs : List ℕ) (ws : Watches) → ((i : ℕ) → i < length (sweep w hs) → g i ≡ former (sweep w hs) f i)
@@ -307,40 +319,126 @@ watches_restored g f w hs (Some v ∷ ws) inside there all_held =
     let rest : ws ≡ map (option_map g) (map (option_map (older (sweep w hs))) ws) = watches_restored g f w hs ws inside there.1 (λ u h. all_held u (by_test (v == u) (λ same. rw same refl) (λ other. rw other h))) in
     ap (λ (u : ℕ). Some u ∷ ws) (sym (restored_parent g f (sweep w hs) v inside kept)) ∙ ap (λ (us : Watches). Some (g (older (sweep w hs) v)) ∷ us) rest
 
+-- an array on a path is in the world
+pub on_path_in : (w : World) (u v : ℕ) → is_listed (path w u) v ≡ true → in_world w v ≡ true
+on_path_in [] u v on = on
+on_path_in ((k, d) ∷ w) u v on = by_test (k == v)
+    (λ is. rw is refl)
+    (λ other. rw other (by_def (λ x h. on_path_in w x v h) d other on))
+  where
+    none_listed : (k == v) ≡ false → is_listed (k ∷ []) v ≡ true → in_world w v ≡ true
+    none_listed other h = let f : is_listed (k ∷ []) v ≡ false = rw other refl in cc
+
+    by_def : ((x : ℕ) → is_listed (path w x) v ≡ true → in_world w v ≡ true) → (d : ArrayDef) → (k == v) ≡ false → is_listed (path ((k, d) ∷ w) u) v ≡ true → in_world w v ≡ true
+    by_def rest (root ty ds es) other h = by_test (k == u)
+        (λ same. none_listed other (rw same at h))
+        (λ apart. rest u (rw apart at h))
+    by_def rest (view p t) other h = by_test (k == u)
+        (λ same. let h' : is_listed (k ∷ path w p) v ≡ true = rw same at h in rest p (rw other at h'))
+        (λ apart. rest u (rw apart at h))
+
+-- what is reached from what is held is kept
+reached_in : (w : World) (many hs : List ℕ) (v : ℕ) → ((u : ℕ) → is_listed hs u ≡ true → is_listed many u ≡ true) → is_reached w hs v ≡ true → in_world (sweep w many) v ≡ true
+reached_in w many [] v all_held on = cc
+reached_in w many (h ∷ hs) v all_held on = by_test (is_listed (path w h) v)
+    (λ here. on_path_in (sweep w many) h v (ap (λ ps. is_listed ps v) (path_kept w many h (all_held h (first_listed h hs))) ∙ here))
+    (λ other. let t : is_reached w hs v ≡ true = rw other at on in reached_in w many hs v (λ u k. all_held u (by_test (h == u) (λ same. rw same refl) (λ apart. rw apart k))) t)
+
+-- each flow's root and all that its formula reads are in a world
+abbrev AreFlowsIn : World → Flows → Type 0
+AreFlowsIn u [] = Unit {0}
+AreFlowsIn u (f ∷ flows) = (in_world u f.root ≡ true) × AreIn u (arrays_in f.formula) × AreFlowsIn u flows
+
+all_kept : (w : World) (many ks : List ℕ) → AreIn w ks → ((v : ℕ) → is_listed ks v ≡ true → is_listed many v ≡ true) → AreIn (sweep w many) ks
+all_kept w many [] there all_held = tt
+all_kept w many (k ∷ ks) there all_held = (
+  held_kept w many k there.0 (all_held k (first_listed k ks)),
+  all_kept w many ks there.1 (λ v t. all_held v (by_test (k == v) (λ same. rw same refl) (λ other. rw other t))),
+)
+
+-- the flows that stay are kept whole
+staying_in : (w : World) (many : List ℕ) (flows : Flows) (hs : List ℕ) → AreIn w (all_read flows) → ((v : ℕ) → is_listed (needs_of w flows hs).arrays v ≡ true → is_listed many v ≡ true)
+    → AreFlowsIn (sweep w many) (needs_of w flows hs).flows
+staying_in w many [] hs there all_held = tt
+staying_in w many (f ∷ flows) hs there all_held =
+    by_stays (staying_in w many flows hs (back_in w (arrays_in f.formula) (all_read flows) there)) (is_reached w n.arrays f.root) refl all_held
+  where
+    n : Needs
+    n = needs_of w flows hs
+
+    by_stays : (((v : ℕ) → is_listed n.arrays v ≡ true → is_listed many v ≡ true) → AreFlowsIn (sweep w many) n.flows)
+        → (stays : Bool) → is_reached w n.arrays f.root ≡ stays → ((v : ℕ) → is_listed (with_flow stays f n).arrays v ≡ true → is_listed many v ≡ true)
+        → AreFlowsIn (sweep w many) (with_flow stays f n).flows
+    by_stays rest false is all_held = rest all_held
+    by_stays rest true is all_held =
+        let below : (v : ℕ) → is_listed n.arrays v ≡ true → is_listed many v ≡ true = λ v t. all_held v (listed_back (arrays_in f.formula) n.arrays v t) in (
+          reached_in w many n.arrays f.root below is,
+          all_kept w many (arrays_in f.formula) (front_in w (arrays_in f.formula) (all_read flows) there) (λ v t. all_held v (listed_front (arrays_in f.formula) n.arrays v t)),
+          rest below,
+        )
+
+-- formulas with the new numbers, and then with the former ones
+formula_restored : (g f : ℕ → ℕ) (u : World) → ((i : ℕ) → i < length u → g i ≡ former u f i) → (x : FormulaTree) → AreIn u (arrays_in x) → x ≡ formula_by g (formula_by (older u) x)
+formula_restored g f u inside (number ty z) there = refl
+formula_restored g f u inside (array k) there = ap array (sym (restored_parent g f u k inside there.0))
+formula_restored g f u inside (unary op x) there = ap (unary op) (formula_restored g f u inside x there)
+formula_restored g f u inside (convert ty x) there = ap (convert ty) (formula_restored g f u inside x there)
+formula_restored g f u inside (binary op x y) there =
+    ap (λ (z : FormulaTree). binary op z y) (formula_restored g f u inside x (front_in u (arrays_in x) (arrays_in y) there))
+    ∙ ap (binary op (formula_by g (formula_by (older u) x))) (formula_restored g f u inside y (back_in u (arrays_in x) (arrays_in y) there))
+
+flows_restored : (g f : ℕ → ℕ) (u : World) → ((i : ℕ) → i < length u → g i ≡ former u f i) → (flows : Flows) → AreFlowsIn u flows → flows ≡ map (flow_by g) (map (flow_by (older u)) flows)
+flows_restored g f u inside [] there = refl
+flows_restored g f u inside (x ∷ flows) there =
+    ap (λ (r : ℕ). flow_of r x.formula ∷ flows) (sym (restored_parent g f u x.root inside there.0))
+    ∙ ap (λ (y : FormulaTree). flow_of (g (older u x.root)) y ∷ flows) (formula_restored g f u inside x.formula there.1)
+    ∙ ap (λ (fs : Flows). flow_of (g (older u x.root)) (formula_by g (formula_by (older u) x.formula)) ∷ fs) (flows_restored g f u inside flows there.2)
+
 -- the former numbers of a state's arrays
 abbrev pub former_numbers : State → ℕ → ℕ
-former_numbers s = before (sweep s.arrays.world (held s)) s.arrays.next
+former_numbers s = before (kept s) s.arrays.next
 
-restores : (s : State) → IsInOrder s → Restores (former_numbers s) (past (sweep s.arrays.world (held s)) s.arrays.next) s.arrays.world (sweep s.arrays.world (held s))
+restores : (s : State) → IsInOrder s → Restores (former_numbers s) (past (kept s) s.arrays.next) s.arrays.world (kept s)
 restores s order = record {
   bound = s.arrays.next;
   below = order.below;
   inside = λ i lt. refl;
-  above = λ i le. omega (arith, former_past (sweep s.arrays.world (held s)) (past (sweep s.arrays.world (held s)) s.arrays.next) i le);
+  above = λ i le. omega (arith, former_past (kept s) (past (kept s) s.arrays.next) i le);
 }
 
--- what is swept has the arrays of the tidied world under their former numbers, and no others
-pub swept_is : (s : State) → IsInOrder s → sweep s.arrays.world (held s) ≡ renamed (former_numbers s) (tidy s).arrays.world
-swept_is s order = (restored (former_numbers s) (past (sweep s.arrays.world (held s)) s.arrays.next) s.arrays.world (held s) order.orderly (restores s order)).kept
+-- what is kept has the arrays of the tidied world under their former numbers, and no others
+pub swept_is : (s : State) → IsInOrder s → kept s ≡ renamed (former_numbers s) (tidy s).arrays.world
+swept_is s order = (restored (former_numbers s) (past (kept s) s.arrays.next) s.arrays.world (needs s).arrays order.orderly (restores s order)).kept
 
 pub former_apart : (s : State) → IsInOrder s → IsApart (former_numbers s)
-former_apart s order = before_apart (sweep s.arrays.world (held s)) s.arrays.next (InOrder-sweep s.arrays.world (held s) order.orderly) (NumbersBelow-sweep s.arrays.next s.arrays.world (held s) order.below)
+former_apart s order =
+    before_apart (kept s) s.arrays.next (InOrder-sweep s.arrays.world (needs s).arrays order.orderly) (NumbersBelow-sweep s.arrays.next s.arrays.world (needs s).arrays order.below)
 
--- a state and the tidied one are alike
-pub tidied_alike : (s : State) → IsInOrder s → StateAlike false (former_numbers s) (tidy s) s
+-- and rose with these
+pub former_rising : (s : State) → IsInOrder s → (i j : ℕ) → i < j → former_numbers s i < former_numbers s j
+former_rising s order i j lt =
+    before_rises (kept s) s.arrays.next i j (InOrder-sweep s.arrays.world (needs s).arrays order.orderly) (NumbersBelow-sweep s.arrays.next s.arrays.world (needs s).arrays order.below) lt
+
+-- a state without the flows that it doesn't keep and the tidied one are alike
+pub tidied_alike : (s : State) → IsInOrder s → StateAlike false (former_numbers s) (tidy s) (settled s)
 tidied_alike s order =
-    let u = sweep s.arrays.world (held s) in
+    let w = s.arrays.world in
+    let u = kept s in
+    let hs : List ℕ = (needs s).arrays in
     let f = past u s.arrays.next in
-    let h : Restores (former_numbers s) f s.arrays.world u = restores s order in
+    let h : Restores (former_numbers s) f w u = restores s order in
+    let needed : (v : ℕ) → is_listed (held s) v ≡ true → is_listed hs v ≡ true = held_needed w s.flows (held s) in
     record {
       arrays = record {
         apart = former_apart s order;
-        world = (restored (former_numbers s) f s.arrays.world (held s) order.orderly h).some;
+        world = (restored (former_numbers s) f w hs order.orderly h).some;
         next = (let e : before u s.arrays.next (length u) ≡ f (length u) = former_past u f (length u) (omega arith) in omega arith);
         on = λ i le. omega (arith, former_past u f i le, former_past u f (i + 1) (omega arith));
       };
-      names = ap (named s.names.kernels) (names_restored (former_numbers s) f s.arrays.world (held s) s.names.arrays h.inside order.inside (holds_front (bound_in s.names) (attached s.watches)));
-      watches = watches_restored (former_numbers s) f s.arrays.world (held s) s.watches h.inside order.watched (holds_back (bound_in s.names) (attached s.watches));
+      names = ap (named s.names.kernels)
+          (names_restored (former_numbers s) f w hs s.names.arrays h.inside order.inside (λ v t. needed v (listed_front (bound_in s.names) (attached s.watches) v t)));
+      watches = watches_restored (former_numbers s) f w hs s.watches h.inside order.watched (λ v t. needed v (listed_back (bound_in s.names) (attached s.watches) v t));
+      flows = flows_restored (former_numbers s) f u h.inside (needs s).flows (staying_in w hs s.flows (held s) order.read (λ v t. t));
     }
 
 -- a world under other numbers has all of its arrays
@@ -352,7 +450,7 @@ all_renamed g ((i, d) ∷ w) = same i d (all_renamed g w)
 pub swept_alike : (s : State) → IsInOrder s → IsSwept s → StateAlike true (former_numbers s) (tidy s) s
 swept_alike s order swept =
     let g = former_numbers s in
-    let h : StateAlike false g (tidy s) s = tidied_alike s order in
+    let h : StateAlike false g (tidy s) (settled s) = tidied_alike s order in
     let P : World → Type 0 = λ w. Renames g true (tidy s).arrays.world w in
-    let all : P s.arrays.world = subst P (sym (swept_is s order) ∙ swept) (all_renamed g (tidy s).arrays.world) in
-    record { arrays = record { apart = h.arrays.apart; world = all; next = h.arrays.next; on = h.arrays.on }; names = h.names; watches = h.watches }
+    let all : P s.arrays.world = subst P (sym (swept_is s order) ∙ swept.arrays) (all_renamed g (tidy s).arrays.world) in
+    record { arrays = record { apart = h.arrays.apart; world = all; next = h.arrays.next; on = h.arrays.on }; names = h.names; watches = h.watches; flows = sym swept.flows ∙ h.flows }

@@ -14,27 +14,34 @@ use Rattle.pdl_world.specs.Cut.{breaks, replaced, rooted, reshape, fitted}
 use Rattle.pdl_world.specs.Sound.{NumbersBelow}
 use Rattle.pdl_lexemes.specs.declared.AssignOp.{AssignOp}
 use Rattle.pdl_syntax.specs.Tree.{Tree, Args, number, named, literal, unary, binary, call, none, value, text, of_type}
-use Rattle.pdl_syntax.specs.StatementTree.{StatementTree, bind, bind_list, assign, show, show_text, sever, reshape as reshapes, undef, vars, dump, pp_def, watch, unwatch}
+use Rattle.pdl_syntax.specs.StatementTree.{StatementTree, bind, bind_list, assign, show, show_text, sever, reshape as reshapes, undef, vars, dump, flow, pp_def, watch, unwatch}
 use Rattle.pdl_machine.specs.declared.fault.Fault.{Fault}
-use Rattle.pdl_machine.specs.declared.fault.Fault.TheVariants.{UnknownName, TooManyNames, TooManyKernels, BadWatcher, ReshapeBreaks, StillWatched}
+use Rattle.pdl_machine.specs.declared.fault.Fault.TheVariants.{FlowReads, FlowTarget, Syntax, UnknownName, TooManyNames, TooManyKernels, BadWatcher, ReshapeBreaks, StillWatched}
 use Rattle.pdl_machine.specs.Then.{and_then, or_fault}
 use Rattle.pdl_machine.specs.Names.{KernelTexts, Named, Names, found, number_of, with_name, without_name, bound_to, unbind, is_full_for, bind as bind_name, names_limit, kernels_limit}
 use Rattle.pdl_machine.specs.Arrays.{Arrays, array_in, with_new}
+use Rattle.pdl_elem.specs.Types.{type_named}
+use Rattle.pdl_ops.specs.Elementwise.{OpRefusal}
+use Rattle.pdl_flow.specs.Formula as formula
+use Rattle.pdl_flow.specs.Meaning.{meaning}
+use Rattle.pdl_world.specs.Paths.{root_of}
+use Rattle.pdl_machine.specs.Flows.{Flow, Flows, is_flow, all_read, without_flow}
+use Rattle.pdl_machine.specs.Following.{given as given_in, follow, followed}
+use Rattle.pdl_machine.specs.Formulas.{formula_of, operand_of}
 use Rattle.pdl_machine.specs.State.{State, with_arrays}
 use Rattle.pdl_machine.specs.Watches.{Watches, watch_of, attached, padded, attach, detach, is_present}
 use Rattle.pdl_machine.specs.Laws.{AreGrown}
 use Rattle.pdl_machine.specs.Outcome.{array, string, type_word, Given, all_seen, Outcome, made, viewed, Valued, new_root, new_view, view_placed, placed}
 use Rattle.pdl_ops.specs.Elementwise.{unary_each}
 use Rattle.pdl_machine.specs.Operators.{binary_each, values_for}
-use Rattle.pdl_machine.specs.Cuts.{cut, severed, dims_given, reshaped, is_watched}
-use Rattle.pdl_kernel.specs.Kernels.{Kernel}
+use Rattle.pdl_machine.specs.Cuts.{cut, dims_given, reshaped, is_watched, is_read}
 use Rattle.pdl_machine.specs.Kernels.{kernel_outputs, defined}
 use Rattle.pdl_machine.specs.Dumps.{dumped}
 use Rattle.pdl_machine.specs.Calls.{outcome, Callee, builtin, kernel, callee_of, only_root, several, value_by, call_value}
 use Rattle.pdl_machine.specs.Value.{Taken, known, number_made, value_of, taken}
 use Rattle.pdl_world.specs.Swept.{parents}
-use Rattle.pdl_machine.specs.Step.{Stepped, bind_value, bound, roots_bound, outputs_bound, kernel_named, list_bound, several_bound, target, assigned, assigning, after_printing, severing, reshaping, watching, unwatching, effect}
-use Rattle.pdl_machine.proofs.Numbering.{in_world, AreIn, IsOrderly, bound_in, IsInOrder}
+use Rattle.pdl_machine.specs.Step.{Stepped, bind_value, bound, ending, bind_severed, begun, flowing, roots_bound, outputs_bound, kernel_named, list_bound, several_bound, target, unless_flow, target_in, assigned, assigning, after_printing, severing, reshaping, watching, unwatching, flowed, effect}
+use Rattle.pdl_machine.proofs.Numbering.{in_world, AreIn, front_in, back_in, append_in, IsOrderly, bound_in, IsInOrder}
 use Rattle.pdl_machine.proofs.WatchLemmas.{attached_padded, attached_trimmed}
 
 pub ok_then : {A B : Type 0} (P : A → Type 0) (Q : B → Type 0) (x : Result A Fault) (f : A → Result B Fault) → IfOk x P → ((a : A) → P a → IfOk (f a) Q) → IfOk (and_then x f) Q
@@ -54,7 +61,7 @@ pub record Grows (a b : Arrays) : Type 0 where
 grows_trans : (a b c : Arrays) → Grows a b → Grows b c → Grows a c
 grows_trans a b c g h = record { orderly = h.orderly; below = h.below; still = λ v there. h.still v (g.still v there) }
 
-still_in : (a b : Arrays) → Grows a b → (vs : List ℕ) → AreIn a.world vs → AreIn b.world vs
+pub still_in : (a b : Arrays) → Grows a b → (vs : List ℕ) → AreIn a.world vs → AreIn b.world vs
 still_in a b g [] h = tt
 still_in a b g (v ∷ vs) h = (g.still v h.0, still_in a b g vs h.1)
 
@@ -213,6 +220,7 @@ state_fine s a order g = record {
   below = g.below;
   inside = still_in s.arrays a g (bound_in s.names) order.inside;
   watched = still_in s.arrays a g (attached s.watches) order.watched;
+  read = still_in s.arrays a g (all_read s.flows) order.read;
 }
 
 pub grows_self : (s : State) → IsInOrder s → Grows s.arrays s.arrays
@@ -240,7 +248,7 @@ define_fine s f k order = by_room (is_full_for kernels_limit s.names.kernels f)
   where
     by_room : (b : Bool) → IfOk (and_then (and_then (if b then Err TooManyKernels else Ok (with_name s.names.kernels f k)) (λ kernels. Ok (record s.names { kernels = kernels }))) (λ names. Ok (record s { names = names }, []))) FineStep
     by_room true = tt
-    by_room false = record { orderly = order.orderly; below = order.below; inside = order.inside; watched = order.watched }
+    by_room false = record { orderly = order.orderly; below = order.below; inside = order.inside; watched = order.watched; read = order.read }
 
 bound_fine : (s : State) (x : List ℕ) → IsInOrder s → (valued : Valued) → IfOk valued (ThereIn s.arrays) → IfOk (bound s x valued) FineStep
 bound_fine s x order valued fine =
@@ -252,6 +260,7 @@ bound_fine s x order valued fine =
       below = here.0.below;
       inside = inside;
       watched = still_in s.arrays v.0 here.0 (attached s.watches) order.watched;
+      read = still_in s.arrays v.0 here.0 (all_read s.flows) order.read;
     }))
 
 roots_fine : (s : State) (xs : List (List ℕ)) (ms : List Made) → IsInOrder s → IfOk (roots_bound s xs ms) FineStep
@@ -304,19 +313,39 @@ assign_fine a v vs g = by_look (look a.world v)
           still = λ u there. in_world-set a.world l.root u es ∙ there;
         }
 
+-- where flows follow, what was there is there still
+followed_grows : (a b : Arrays) (flows : Flows) → Grows a b → Grows a (followed b flows)
+followed_grows a b [] g = g
+followed_grows a b (f ∷ flows) g = followed_grows a (follow b f) flows (by_value (meaning (array_in b) f.formula))
+  where
+    by_value : (x : Result Made OpRefusal) → Grows a (given_in b f.root x)
+    by_value (Ok m) = grows_trans a b (record b { world = assign_in b.world f.root m.elems }) g (assign_fine b f.root m.elems (self a b g))
+    by_value (Err e) = g
+
+pub flowed_in_order : (s : State) → IsInOrder s → IsInOrder (flowed s)
+flowed_in_order s order = state_fine s (followed s.arrays s.flows) order (followed_grows s.arrays s.arrays s.flows (grows_self s order))
+
+-- an array that may be assigned to is one
+pub unless_ok : (P : Arrays × ℕ → Type 0) (flows : Flows) (x : Valued) → IfOk x P → IfOk (and_then x (unless_flow flows)) P
+unless_ok P flows x fine = ok_then P P x (unless_flow flows) fine (λ v here. by_flow v here (is_flow flows (root_of v.0.world v.1)))
+  where
+    by_flow : (v : Arrays × ℕ) → P v → (b : Bool) → IfOk (if b then Err FlowTarget else Ok v) P
+    by_flow v here true = tt
+    by_flow v here false = here
+
 assigning_fine : (s : State) (to : Tree) (sign : AssignOp) (e : Tree) → IsInOrder s → IfOk (assigning s to sign e) FineStep
 assigning_fine s to sign e order =
-    ok_then (FineValue s.arrays) FineStep (value_of s.names s.arrays to) (λ v. and_then (value_of s.names v.0 e) (λ u. last u.0 (assigned sign u.0 v.1 u.1)))
-    (state_value_fine s order to) (λ v fine.
+    ok_then (FineValue s.arrays) FineStep (target_in s to) (λ v. and_then (value_of s.names v.0 e) (λ u. last u.0 (assigned sign u.0 v.1 u.1)))
+    (unless_ok (FineValue s.arrays) s.flows (value_of s.names s.arrays to) (state_value_fine s order to)) (λ v fine.
     ok_then (FineValue v.0) FineStep (value_of s.names v.0 e) (λ u. last u.0 (assigned sign u.0 v.1 u.1))
     (value_fine s.names e v.0 (self s.arrays v.0 fine.0) (still_in s.arrays v.0 fine.0 (bound_in s.names) order.inside)) (λ u right.
-    ok_then (Grows s.arrays) FineStep (assigned sign u.0 v.1 u.1) (λ a. Ok (with_arrays s a, []))
+    ok_then (Grows s.arrays) FineStep (assigned sign u.0 v.1 u.1) (λ a. Ok (flowed (with_arrays s a), []))
     (ok_always (Grows s.arrays) (values_for sign (array_in u.0 v.1) (array_in u.0 u.1)) (λ values. Ok (record u.0 { world = assign_in u.0.world v.1 values })) (λ values.
     grows_trans s.arrays u.0 (record u.0 { world = assign_in u.0.world v.1 values }) (grows_trans s.arrays v.0 u.0 fine.0 right.0) (assign_fine u.0 v.1 values (self v.0 u.0 right.0))))
-    (λ a g. state_fine s a order g)))
+    (λ a g. flowed_in_order (with_arrays s a) (state_fine s a order g))))
   where
     last : Arrays → Result Arrays Fault → Stepped
-    last a x = and_then x (λ b. Ok (with_arrays s b, []))
+    last a x = and_then x (λ b. Ok (flowed (with_arrays s b), []))
 
 below_replaced : (n : ℕ) (w : World) (v : ℕ) (new : ArrayDef) → NumbersBelow n w → NumbersBelow n (replaced w v new)
 below_replaced n [] v new below = tt
@@ -347,22 +376,45 @@ rooted_fine a v ds es g = record {
 cut_fine : (a : Arrays) (v : ℕ) → Grows a a → Grows a (cut a v)
 cut_fine a v g = rooted_fine a v (dims_in a.world v) (elements a.world v) g
 
-severed_fine : (a : Arrays) (valued : Valued) → IfOk valued (FineValue a) → IfOk (severed valued) (ThereIn a)
-severed_fine a valued fine =
-    ok_then (FineValue a) (ThereIn a) valued (λ v. Ok (cut v.0 v.1, v.1)) fine (λ v here.
-    let g : Grows v.0 (cut v.0 v.1) = cut_fine v.0 v.1 (self a v.0 here.0) in
-    (grows_trans a v.0 (cut v.0 v.1) here.0 g, g.still v.1 here.1))
+without_flow_in : (w : World) (flows : Flows) (v : ℕ) → AreIn w (all_read flows) → AreIn w (all_read (without_flow flows v))
+without_flow_in w [] v h = tt
+without_flow_in w (f ∷ flows) v h =
+    let ks = formula.arrays_in f.formula in
+    let rest : AreIn w (all_read (without_flow flows v)) = without_flow_in w flows v (back_in w ks (all_read flows) h) in
+    by_test (f.root == v) (λ same. rw same rest) (λ other. rw other (append_in w ks (all_read (without_flow flows v)) (front_in w ks (all_read flows) h) rest))
+
+ending_fine : (s : State) (v : ℕ) → IsInOrder s → IsInOrder (ending s v)
+ending_fine s v order = record {
+  orderly = order.orderly;
+  below = order.below;
+  inside = order.inside;
+  watched = order.watched;
+  read = without_flow_in s.arrays.world s.flows v order.read;
+}
+
+bind_severed_fine : (s : State) (x : List ℕ) → IsInOrder s → (v : Arrays × ℕ) → FineValue s.arrays v → IfOk (bind_severed s x v) FineStep
+bind_severed_fine s x order v here =
+    let g : Grows v.0 (cut v.0 v.1) = cut_fine v.0 v.1 (self s.arrays v.0 here.0) in
+    bound_fine (ending s v.1) x (ending_fine s v.1 order) (Ok (cut v.0 v.1, v.1)) (grows_trans s.arrays v.0 (cut v.0 v.1) here.0 g, g.still v.1 here.1)
+
+abbrev pub refused_by : (breaks watched flows reads : Bool) → Arrays → Result Arrays Fault
+refused_by x y z r a = if x then Err ReshapeBreaks else if y then Err StillWatched else if z then Err FlowTarget else if r then Err FlowReads else Ok a
 
 reshaping_fine : (s : State) (v : ℕ) → IsInOrder s → (t : Arrays × List Given) → FineTaken s.arrays t → IfOk (reshaping s v t) FineStep
 reshaping_fine s v order (b, given) fine =
-    ok_always FineStep (dims_given (b, given)) (λ ds. and_then (reshaped s.watches b v ds) (λ a. Ok (with_arrays s a, []))) (λ ds. by_tests ds (breaks b.world v ds) (is_watched s.watches b.world v))
+    ok_always FineStep (dims_given (b, given)) (λ ds. and_then (reshaped s.watches s.flows b v ds) (λ a. Ok (with_arrays s a, []))) (λ ds.
+    by_tests ds (breaks b.world v ds) (is_watched s.watches b.world v) (is_flow s.flows v) (is_read s.flows b.world v))
   where
-    by_tests : (ds : List ℕ) (x y : Bool) → IfOk (and_then (if x then Err ReshapeBreaks else if y then Err StillWatched else Ok (record b { world = reshape b.world v ds })) (λ a. Ok (with_arrays s a, []))) FineStep
-    by_tests ds true y = tt
-    by_tests ds false true = tt
-    by_tests ds false false =
-        let other : Arrays = record b { world = reshape b.world v ds } in
-        state_fine s other order (grows_trans s.arrays b other fine.0 (rooted_fine b v ds (fitted (size_of ds) (elements b.world v)) (self s.arrays b fine.0)))
+    other : List ℕ → Arrays
+    other ds = record b { world = reshape b.world v ds }
+
+    by_tests : (ds : List ℕ) (x y z r : Bool) → IfOk (and_then (refused_by x y z r (other ds)) (λ a. Ok (with_arrays s a, []))) FineStep
+    by_tests ds true y z r = tt
+    by_tests ds false true z r = tt
+    by_tests ds false false true r = tt
+    by_tests ds false false false true = tt
+    by_tests ds false false false false =
+        state_fine s (other ds) order (grows_trans s.arrays b (other ds) fine.0 (rooted_fine b v ds (fitted (size_of ds) (elements b.world v)) (self s.arrays b fine.0)))
 
 without_in : (w : World) (names : Named ℕ) (x : List ℕ) → AreIn w (map (λ n. n.1) names) → AreIn w (map (λ n. n.1) (without_name names x))
 without_in w [] x h = tt
@@ -375,7 +427,7 @@ unbind_fine s x order = by_number (bound_to s.names x)
   where
     by_number : (o : Result ℕ Fault) → IfOk (and_then (and_then o (λ v. Ok (record s.names { arrays = without_name s.names.arrays x }))) (λ names. Ok (record s { names = names }, []))) FineStep
     by_number (Err e) = tt
-    by_number (Ok v) = record { orderly = order.orderly; below = order.below; inside = without_in s.arrays.world s.names.arrays x order.inside; watched = order.watched }
+    by_number (Ok v) = record { orderly = order.orderly; below = order.below; inside = without_in s.arrays.world s.names.arrays x order.inside; watched = order.watched; read = order.read }
 
 several_fine : (s : State) (xs : List (List ℕ)) → IsInOrder s → (e : Tree) → IfOk (several_bound s xs e) FineStep
 several_fine s xs order (call f args) =
@@ -398,7 +450,7 @@ set_in w (Some u ∷ ws) (suc k) o h here = (h.0, set_in w ws k o h.1 here)
 
 -- other watches of arrays that are there
 rewatched_fine : (s : State) → IsInOrder s → (ws : Watches) → AreIn s.arrays.world (attached ws) → FineStep (record s { watches = ws }, [])
-rewatched_fine s order ws there = record { orderly = order.orderly; below = order.below; inside = order.inside; watched = there }
+rewatched_fine s order ws there = record { orderly = order.orderly; below = order.below; inside = order.inside; watched = there; read = order.read }
 
 watching_fine : (present : List Bool) (s : State) (k v : ℕ) → IsInOrder s → in_world s.arrays.world v ≡ true → IfOk (watching present s k v) FineStep
 watching_fine present s k v order here = by_room (is_present present k && is_none (watch_of s.watches k))
@@ -420,32 +472,86 @@ unwatching_fine s k order = by_slot (is_none (watch_of s.watches k))
         rewatched_fine s order (detach s.watches k) (subst (AreIn s.arrays.world) (sym (attached_trimmed rest)) (set_in s.arrays.world s.watches k None order.watched tt))
 
 -- the array of a name is there
-pub bound_to_fine : (s : State) (x : List ℕ) → IsInOrder s → IfOk (bound_to s.names x) (λ v. in_world s.arrays.world v ≡ true)
-bound_to_fine s x order = by_number (number_of s.names x) (named_in s.arrays.world s.names.arrays x order.inside)
+pub bound_there : (w : World) (names : Names) (x : List ℕ) → AreIn w (bound_in names) → IfOk (bound_to names x) (λ v. in_world w v ≡ true)
+bound_there w names x h = by_number (number_of names x) (named_in w names.arrays x h)
   where
-    by_number : (o : Option ℕ) → IfSome o (λ v. in_world s.arrays.world v ≡ true) → IfOk (or_fault UnknownName o) (λ v. in_world s.arrays.world v ≡ true)
+    by_number : (o : Option ℕ) → IfSome o (λ v. in_world w v ≡ true) → IfOk (or_fault UnknownName o) (λ v. in_world w v ≡ true)
     by_number None h = tt
     by_number (Some v) h = h
+
+pub bound_to_fine : (s : State) (x : List ℕ) → IsInOrder s → IfOk (bound_to s.names x) (λ v. in_world s.arrays.world v ≡ true)
+bound_to_fine s x order = bound_there s.arrays.world s.names x order.inside
+
+-- what a formula reads is there
+abbrev ReadsIn : World → formula.FormulaTree → Type 0
+ReadsIn w f = AreIn w (formula.arrays_in f)
+
+mutual
+  pub formula_in : (w : World) (names : Names) (e : Tree) → AreIn w (bound_in names) → IfOk (formula_of names e) (ReadsIn w)
+  formula_in w names (number z) h = tt
+  formula_in w names (named x) h = ok_then (λ v. in_world w v ≡ true) (ReadsIn w) (bound_to names x) (λ v. Ok (formula.array v)) (bound_there w names x h) (λ v there. (there, tt))
+  formula_in w names (literal ty ds es) h = tt
+  formula_in w names (unary op e) h = ok_then (ReadsIn w) (ReadsIn w) (formula_of names e) (λ f. Ok (formula.unary op f)) (formula_in w names e h) (λ f there. there)
+  formula_in w names (binary op d e) h =
+      ok_then (ReadsIn w) (ReadsIn w) (formula_of names d) (λ f. and_then (formula_of names e) (λ i. Ok (formula.binary op f i))) (formula_in w names d h) (λ f first.
+      ok_then (ReadsIn w) (ReadsIn w) (formula_of names e) (λ i. Ok (formula.binary op f i)) (formula_in w names e h) (λ i second.
+      append_in w (formula.arrays_in f) (formula.arrays_in i) first second))
+  formula_in w names (call word args) h =
+      ok_always (ReadsIn w) (or_fault Syntax (type_named word)) (λ ty. and_then (operand_of names args) (λ f. Ok (formula.convert ty f))) (λ ty.
+      ok_then (ReadsIn w) (ReadsIn w) (operand_of names args) (λ f. Ok (formula.convert ty f)) (operand_in w names args h) (λ f there. there))
+
+  operand_in : (w : World) (names : Names) (args : Args) → AreIn w (bound_in names) → IfOk (operand_of names args) (ReadsIn w)
+  operand_in w names none h = tt
+  operand_in w names (value none e) h = formula_in w names e h
+  operand_in w names (value (value front d) e) h = tt
+  operand_in w names (value (text front t) e) h = tt
+  operand_in w names (value (of_type front ty) e) h = tt
+  operand_in w names (text front t) h = tt
+  operand_in w names (of_type front ty) h = tt
+
+read_with : (w : World) (flows : Flows) (f : Flow) → AreIn w (all_read flows) → AreIn w (formula.arrays_in f.formula) → AreIn w (all_read (flows ++ f ∷ []))
+read_with w [] f h there = append_in w (formula.arrays_in f.formula) [] there tt
+read_with w (x ∷ flows) f h there =
+    let ks = formula.arrays_in x.formula in
+    append_in w ks (all_read (flows ++ f ∷ [])) (front_in w ks (all_read flows) h) (read_with w flows f (back_in w ks (all_read flows) h) there)
+
+begun_fine : (s : State) → IsInOrder s → (a : Arrays) (f : formula.FormulaTree) → ReadsIn s.arrays.world f → IsInOrder (begun s a f)
+begun_fine s order a f there = record {
+  orderly = order.orderly;
+  below = order.below;
+  inside = order.inside;
+  watched = order.watched;
+  read = read_with s.arrays.world s.flows (record { root = a.next; formula = f }) order.read there;
+}
+
+flowing_fine : (s : State) (x : List ℕ) (e : Tree) → IsInOrder s → (v : Arrays × ℕ) → FineValue s.arrays v → IfOk (flowing s x e v) FineStep
+flowing_fine s x e order v fine =
+    ok_then (ReadsIn s.arrays.world) FineStep (formula_of s.names e) (λ f. bound (begun s v.0 f) x (new_root v.0 (array_in v.0 v.1)))
+    (formula_in s.arrays.world s.names e order.inside) (λ f there.
+    bound_fine (begun s v.0 f) x (begun_fine s order v.0 f there) (new_root v.0 (array_in v.0 v.1))
+    (value_there s.arrays (new_root v.0 (array_in v.0 v.1)) (later s.arrays v.0 fine.0 fine.2 (new_root v.0 (array_in v.0 v.1)) (root_fine v.0 (array_in v.0 v.1) (self s.arrays v.0 fine.0)))))
 
 -- a statement leaves a state in order
 pub effect_in_order : (present : List Bool) (s : State) → IsInOrder s → (statement : StatementTree) → IfOk (effect present s statement) (λ x. IsInOrder x.0)
 effect_in_order present s order (bind x e false) =
     bound_fine s x order (value_of s.names s.arrays e) (value_there s.arrays (value_of s.names s.arrays e) (state_value_fine s order e))
 effect_in_order present s order (bind x e true) =
-    bound_fine s x order (severed (value_of s.names s.arrays e)) (severed_fine s.arrays (value_of s.names s.arrays e) (state_value_fine s order e))
+    ok_then (FineValue s.arrays) FineStep (value_of s.names s.arrays e) (bind_severed s x) (state_value_fine s order e) (bind_severed_fine s x order)
 effect_in_order present s order (bind_list xs e) = several_fine s xs order e
 effect_in_order present s order (assign x views sign e) = assigning_fine s (target x views) sign e order
 effect_in_order present s order (show e is_info) =
     ok_then (FineValue s.arrays) FineStep (value_of s.names s.arrays e) (λ v. Ok (after_printing s is_info v)) (state_value_fine s order e) (λ v fine. state_fine s v.0 order fine.0)
 effect_in_order present s order (show_text t) = order
 effect_in_order present s order (sever x) =
-    ok_always FineStep (bound_to s.names x) (severing s) (λ v. state_fine s (cut s.arrays v) order (cut_fine s.arrays v (grows_self s order)))
+    ok_always FineStep (bound_to s.names x) (severing s) (λ v. state_fine (ending s v) (cut s.arrays v) (ending_fine s v order) (cut_fine s.arrays v (grows_self s order)))
 effect_in_order present s order (reshapes x sizes) =
     ok_always FineStep (bound_to s.names x) (λ v. and_then (taken s.names s.arrays sizes) (reshaping s v)) (λ v.
     ok_then (FineTaken s.arrays) FineStep (taken s.names s.arrays sizes) (reshaping s v) (taken_fine s.names sizes s.arrays (grows_self s order) order.inside) (reshaping_fine s v order))
 effect_in_order present s order (undef x) = unbind_fine s x order
 effect_in_order present s order vars = order
 effect_in_order present s order dump = ok_always FineStep (dumped s) (λ text. Ok (s, text)) (λ text. order)
+effect_in_order present s order (flow x e) =
+    ok_then (FineValue s.arrays) FineStep (value_of s.names s.arrays e) (flowing s x e) (state_value_fine s order e) (flowing_fine s x e order)
 effect_in_order present s order (pp_def f a b) = ok_always FineStep (defined f a b) (kernel_named s f) (λ k. define_fine s f k order)
 effect_in_order present s order (watch x k) =
     ok_then (λ v. in_world s.arrays.world v ≡ true) FineStep (bound_to s.names x) (watching present s k) (bound_to_fine s x order) (λ v here. watching_fine present s k v order here)

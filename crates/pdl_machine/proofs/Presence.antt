@@ -5,8 +5,7 @@ use Rattle.std.proofs.lemmas.List.{get_or-set_other}
 use Rattle.pdl_lemmas.specs.Tests.{by_test}
 use Rattle.pdl_lex.specs.Pieces.{Mark, statement, script_too_long, script_marks}
 use Rattle.pdl_lex.specs.declared.Piece.TheVariants.{Whole, TooLong}
-use Rattle.pdl_world.specs.Swept.{sweep}
-use Rattle.pdl_syntax.specs.StatementTree.{StatementTree, bind, bind_list, assign, show, show_text, sever, reshape, undef, vars, dump, pp_def, watch, unwatch}
+use Rattle.pdl_syntax.specs.StatementTree.{StatementTree, bind, bind_list, assign, show, show_text, sever, reshape, undef, vars, dump, flow, pp_def, watch, unwatch}
 use Rattle.pdl_io.specs.Counts.{next_count}
 use Rattle.pdl_watch.specs.declared.notice.Notice.{Notice}
 use Rattle.pdl_watch.specs.Slots.{joined, IsBelow}
@@ -15,7 +14,7 @@ use Rattle.pdl_machine.specs.declared.fault.Fault.{Fault}
 use Rattle.pdl_machine.specs.declared.fault.Fault.TheVariants.{BadWatcher}
 use Rattle.pdl_machine.specs.Then.{and_then}
 use Rattle.pdl_machine.specs.Names.{bound_to}
-use Rattle.pdl_machine.specs.State.{State, held}
+use Rattle.pdl_machine.specs.State.{State, kept}
 use Rattle.pdl_machine.specs.Tidy.{older, tidy}
 use Rattle.pdl_machine.specs.Watches.{Watches, watch_of, padded, attach, detach, is_present, AreThere}
 use Rattle.pdl_machine.specs.Step.{Stepped, Done, left, done, watching, unwatching, effect, step}
@@ -44,6 +43,7 @@ left_is_below self ps (reshape x sizes) = self ps
 left_is_below self ps (undef x) = self ps
 left_is_below self ps vars = self ps
 left_is_below self ps dump = self ps
+left_is_below self ps (flow x e) = self ps
 left_is_below self ps (pp_def f a b) = self ps
 left_is_below self ps (watch x k) = self ps
 
@@ -147,6 +147,7 @@ effect_there present s (reshape x sizes) there = same_there present s there (eff
 effect_there present s (undef x) there = same_there present s there (effect present s (undef x)) (effect_watches present s (undef x) tt)
 effect_there present s vars there = there
 effect_there present s dump there = same_there present s there (effect present s dump) (effect_watches present s dump tt)
+effect_there present s (flow x e) there = same_there present s there (effect present s (flow x e)) (effect_watches present s (flow x e) tt)
 effect_there present s (pp_def f a b) there = same_there present s there (effect present s (pp_def f a b)) (effect_watches present s (pp_def f a b) tt)
 
 pub steps_keep_there : StepsKeepThere
@@ -160,7 +161,7 @@ steps_keep_there number present s tree came there is = by_effect (effect present
     by_effect (Ok p) fine is =
         let P : Watches × List Bool → Type 0 = λ w. AreThere w.1 w.0 in
         let e : ((tidy p.0).watches, left present tree) ≡ (came.state.watches, came.present) = ap (slots_of ([], [])) is in
-        subst P e (renumbered_there (older (sweep p.0.arrays.world (held p.0))) (left present tree) p.0.watches fine)
+        subst P e (renumbered_there (older (kept p.0)) (left present tree) p.0.watches fine)
     by_effect (Err f) fine is = cc
 
 joined_none : (xs : List (List Notice)) → joined xs [] ≡ xs

@@ -1,10 +1,8 @@
 -- Watchers are told of assignments alone: no other statement changes what an array shows that was
 -- there and is watched.
-use Rattle.std.proofs.Common.{◌≡◌, ◌≢◌, ℕ, ◌+◌, ℤ, List, [], ◌∷◌, ◌++◌, length, Bool, true, false, Option, Some, None, Result, Ok, Err, refl, sym, ap, subst, ◌∙◌, eqb-true, eq-eqb, arith}
-use Rattle.std.specs.Prelude.{◌==◌, ◌||◌, if◌then◌else◌, IfOk, IsSomeAnd}
-use Rattle.std.specs.List.{list_any}
+use Rattle.std.proofs.Common.{◌≡◌, ℕ, ◌+◌, ℤ, List, [], ◌∷◌, ◌++◌, length, Bool, true, false, Option, Some, None, Result, Ok, Err, refl, sym, ap, subst, ◌∙◌, eqb-true, eq-eqb, arith}
+use Rattle.std.specs.Prelude.{◌==◌, if◌then◌else◌, IfOk, IsSomeAnd}
 use Rattle.std.proofs.lemmas.Bool.{or_parts}
-use Rattle.std.specs.Ordering.{int_eq}
 use Rattle.std.specs.Option.{option_map_or}
 use Rattle.std.proofs.lemmas.List.Elements.{All-cons}
 use Rattle.pdl_lemmas.specs.Tests.{by_test}
@@ -22,28 +20,30 @@ use Rattle.pdl_world.specs.Paths.{path}
 use Rattle.pdl_world.specs.SweepLaws.{IsSeenAsBefore}
 use Rattle.pdl_world.specs.CutLaws.{CutsLeaveElements, CutsLeaveNumbers}
 use Rattle.pdl_syntax.specs.Tree.{Tree, number, named, literal, unary, binary, call}
-use Rattle.pdl_syntax.specs.StatementTree.{StatementTree, bind, bind_list, assign, show, show_text, sever as severs, reshape as reshapes, undef, vars, dump, pp_def, watch, unwatch}
+use Rattle.pdl_syntax.specs.StatementTree.{StatementTree, bind, bind_list, assign, show, show_text, sever as severs, reshape as reshapes, undef, vars, dump, flow, pp_def, watch, unwatch}
 use Rattle.pdl_watch.specs.declared.notice.Notice.{Notice}
 use Rattle.pdl_watch.specs.Changes.{SameHaveNoChanges, changes}
 use Rattle.pdl_watch.specs.Slots.{IsQuiet}
 use Rattle.pdl_machine.specs.declared.fault.Fault.{Fault}
-use Rattle.pdl_machine.specs.declared.fault.Fault.TheVariants.{ReshapeBreaks, StillWatched}
 use Rattle.pdl_machine.specs.Then.{and_then}
 use Rattle.pdl_machine.specs.Names.{bound_to, unbind, bind as bind_name, define}
-use Rattle.pdl_machine.specs.Arrays.{Arrays}
+use Rattle.pdl_machine.specs.Arrays.{Arrays, array_in}
 use Rattle.pdl_machine.specs.State.{State, with_arrays, held, AreLive, IsWhole}
 use Rattle.pdl_machine.specs.Watches.{Watches, attached, attaching, detaching, notices}
 use Rattle.pdl_machine.specs.Outcome.{Given, all_seen, Valued, new_root}
-use Rattle.pdl_machine.specs.Cuts.{cut, severed, dims_given, is_watched, reshaped}
+use Rattle.pdl_machine.specs.Cuts.{cut, dims_given, is_watched, is_read, reshaped}
+use Rattle.pdl_machine.specs.Flows.{is_flow, is_reached}
+use Rattle.pdl_machine.specs.Formulas.{formula_of}
 use Rattle.pdl_machine.specs.Kernels.{defined}
 use Rattle.pdl_machine.specs.Dumps.{dumped}
 use Rattle.pdl_machine.specs.Calls.{Callee, callee_of, several, value_by}
 use Rattle.pdl_machine.specs.Value.{value_of, taken}
-use Rattle.pdl_machine.specs.Step.{Stepped, bind_value, bound, roots_bound, outputs_bound, kernel_named, list_bound, several_bound, after_printing, severing, reshaping, watching, effect}
+use Rattle.pdl_machine.specs.Step.{Stepped, bind_value, bound, ending, bind_severed, begun, flowing, roots_bound, outputs_bound, kernel_named, list_bound, several_bound, after_printing, severing, reshaping, watching, effect}
 use Rattle.pdl_machine.specs.Laws.{AreGrown, Assigns, OnlyAssignmentsTell, GrowingTellsTheSame}
 use Rattle.pdl_machine.proofs.Renamed.{look-other}
-use Rattle.pdl_machine.proofs.Numbering.{in_world, IsOrderly, orderly_sound, bound_in, IsInOrder, in_order, holds_back}
-use Rattle.pdl_machine.proofs.Orderly.{ok_then, ok_always, FineValue, FineTaken, grown_self, grown_trans, self, later, value_by_fine, taken_fine, grows_self, state_value_fine, bound_to_fine, orderly_replaced, effect_in_order}
+use Rattle.pdl_machine.proofs.Numbering.{in_world, IsOrderly, orderly_sound, bound_in, IsInOrder, in_order}
+use Rattle.pdl_machine.proofs.FlowLemmas.{listed_back}
+use Rattle.pdl_machine.proofs.Orderly.{ok_then, ok_always, FineValue, FineTaken, grown_self, grown_trans, self, later, value_by_fine, taken_fine, grows_self, state_value_fine, bound_to_fine, orderly_replaced, refused_by, effect_in_order}
 use Rattle.pdl_machine.proofs.Watching.{SameWatches, effect_watches}
 
 -- the laws of worlds, and of their elements, that are used here
@@ -58,26 +58,26 @@ pub record WorldLaws : Type 0 where
   pub unchanged : SameHaveNoChanges
 
 -- two looks alike are of an array that is there in both or in neither
-live_as : (w u : World) (v : ℕ) → look u v ≡ look w v → IsLive w v → IsLive u v
+pub live_as : (w u : World) (v : ℕ) → look u v ≡ look w v → IsLive w v → IsLive u v
 live_as w u v same live = let P : Option Look → Type 0 = λ o. IsSomeAnd o (λ l. Unit {0}) in subst P (sym same) live
 
 -- arrays in front leave what is seen of the others
-look_more : OlderStay → (more w : World) (v : ℕ) → IsOrderly (more ++ w) → IsLive w v → look (more ++ w) v ≡ look w v
+pub look_more : OlderStay → (more w : World) (v : ℕ) → IsOrderly (more ++ w) → IsLive w v → look (more ++ w) v ≡ look w v
 look_more older [] w v order live = refl
 look_more older ((k, d) ∷ more) w v order live =
     let rest : look (more ++ w) v ≡ look w v = look_more older more w v order.2 live in
     older (more ++ w) k v d order.0 (live_as w (more ++ w) v rest live) ∙ rest
 
-elements_more : OlderStay → OlderElementsStay → (more w : World) (v : ℕ) → IsOrderly (more ++ w) → IsLive w v → elements (more ++ w) v ≡ elements w v
+pub elements_more : OlderStay → OlderElementsStay → (more w : World) (v : ℕ) → IsOrderly (more ++ w) → IsLive w v → elements (more ++ w) v ≡ elements w v
 elements_more older stay [] w v order live = refl
 elements_more older stay ((k, d) ∷ more) w v order live =
     stay (more ++ w) k v d order.0 (live_as w (more ++ w) v (look_more older more w v order.2 live) live) ∙ elements_more older stay more w v order.2 live
 
-replaced_more : (more w : World) (v : ℕ) (d : ArrayDef) → replaced (more ++ w) v d ≡ replaced more v d ++ replaced w v d
+pub replaced_more : (more w : World) (v : ℕ) (d : ArrayDef) → replaced (more ++ w) v d ≡ replaced more v d ++ replaced w v d
 replaced_more [] w v d = refl
 replaced_more ((k, e) ∷ more) w v d = ap (λ (u : World). (k, if k == v then d else e) ∷ u) (replaced_more more w v d)
 
-replaced_none : (w : World) (v : ℕ) (d : ArrayDef) → in_world w v ≡ false → replaced w v d ≡ w
+pub replaced_none : (w : World) (v : ℕ) (d : ArrayDef) → in_world w v ≡ false → replaced w v d ≡ w
 replaced_none [] v d none = refl
 replaced_none ((k, e) ∷ w) v d none =
     by_test (k == v)
@@ -96,7 +96,7 @@ root_more laws more w v u ty ds es order live =
     ap (λ (x : World). elements x u) e ∙ elements_more laws.older laws.older_elements (replaced more v d) (replaced w v d) u (subst IsOrderly e (orderly_replaced (more ++ w) v ty ds es order)) live
 
 -- an array of a sound world can be looked at
-sound_live : WorldLaws → (w : World) (v : ℕ) → IsSound w → in_world w v ≡ true → IsLive w v
+pub sound_live : WorldLaws → (w : World) (v : ℕ) → IsSound w → in_world w v ≡ true → IsLive w v
 sound_live laws [] v sound there = cc
 sound_live laws ((k, d) ∷ w) v sound there =
     by_test (k == v)
@@ -131,7 +131,7 @@ cut_quiet laws more w v u sound order live = by_test (in_world w v) old new
         root_more laws more w v u ty ds es order (subst (λ (x : World). IsLive x u) (sym same) live) ∙ ap (λ (x : World). elements x u) same
 
 -- arrays in front leave the paths of the others
-path_more : WorldLaws → (more w : World) (v : ℕ) → IsOrderly (more ++ w) → IsLive w v → path (more ++ w) v ≡ path w v
+pub path_more : WorldLaws → (more w : World) (v : ℕ) → IsOrderly (more ++ w) → IsLive w v → path (more ++ w) v ≡ path w v
 path_more laws [] w v order live = refl
 path_more laws ((k, d) ∷ more) w v order live =
     laws.older_paths (more ++ w) k v d order.0 (live_as w (more ++ w) v (look_more laws.older more w v order.2 live) live) ∙ path_more laws more w v order.2 live
@@ -166,17 +166,17 @@ held_live w (v ∷ vs) u live h =
     by_test (v == u) (λ same. subst (IsLive w) (eqb-true v u same) live.0) (λ other. let rest : is_listed vs u ≡ true = rw other at h in held_live w vs u live.1 rest)
 
 watched_live : (s : State) → IsWhole s → (u : ℕ) → is_listed (attached s.watches) u ≡ true → IsLive s.arrays.world u
-watched_live s whole u h = held_live s.arrays.world (held s) u whole.live (holds_back (bound_in s.names) (attached s.watches) u h)
+watched_live s whole u h = held_live s.arrays.world (held s) u whole.live (listed_back (bound_in s.names) (attached s.watches) u h)
 
 -- only new arrays came
-abbrev GrownStep : State → State × List ℕ → Type 0
+abbrev pub GrownStep : State → State × List ℕ → Type 0
 GrownStep s after = AreGrown s.arrays after.0.arrays
 
-grown_value : (a : Arrays) (x : Valued) → IfOk x (FineValue a) → IfOk x (λ v. AreGrown a v.0)
+pub grown_value : (a : Arrays) (x : Valued) → IfOk x (FineValue a) → IfOk x (λ v. AreGrown a v.0)
 grown_value a (Ok v) fine = fine.2
 grown_value a (Err e) fine = tt
 
-bound_grown : (s : State) (x : List ℕ) (valued : Valued) → IfOk valued (λ v. AreGrown s.arrays v.0) → IfOk (bound s x valued) (GrownStep s)
+pub bound_grown : (s : State) (x : List ℕ) (valued : Valued) → IfOk valued (λ v. AreGrown s.arrays v.0) → IfOk (bound s x valued) (GrownStep s)
 bound_grown s x valued grown =
     ok_then (λ v. AreGrown s.arrays v.0) (GrownStep s) valued (bind_value s x) grown (λ v g.
     ok_always (GrownStep s) (bind_name s.names x v.1) (λ names. Ok (record s { names = names; arrays = v.0 }, [])) (λ names. g))
@@ -209,7 +209,7 @@ outputs_grown s (x ∷ []) (b, given) c fine =
 outputs_grown s [] (b, given) c fine = many_grown s [] (b, given) c fine.2
 outputs_grown s (x ∷ y ∷ xs) (b, given) c fine = many_grown s (x ∷ y ∷ xs) (b, given) c fine.2
 
-several_grown : (s : State) → IsInOrder s → (xs : List (List ℕ)) (e : Tree) → IfOk (several_bound s xs e) (GrownStep s)
+pub several_grown : (s : State) → IsInOrder s → (xs : List (List ℕ)) (e : Tree) → IfOk (several_bound s xs e) (GrownStep s)
 several_grown s order xs (call f args) =
     ok_then (FineTaken s.arrays) (GrownStep s) (taken s.names s.arrays args) (list_bound s xs f) (taken_fine s.names args s.arrays (grows_self s order) order.inside) (λ t fine.
     ok_always (GrownStep s) (callee_of s.names f) (outputs_bound s xs t) (λ c. outputs_grown s xs t c fine))
@@ -233,31 +233,43 @@ cut_keeps laws s whole a v u grown order h =
     ap (λ (w : World). elements (sever w v) u) grown.is
     ∙ cut_quiet laws grown.more s.arrays.world v u whole.sound (subst IsOrderly grown.is order) (watched_live s whole u h)
 
-severed_keeps : WorldLaws → (s : State) → IsWhole s → (x : List ℕ) (valued : Valued) → IfOk valued (FineValue s.arrays) → IfOk (bound s x (severed valued)) (Keeps s)
-severed_keeps laws s whole x (Err e) fine = tt
-severed_keeps laws s whole x (Ok v) fine =
-    ok_always (Keeps s) (bind_name s.names x v.1) (λ names. Ok (record s { names = names; arrays = cut v.0 v.1 }, [])) (λ names u h.
+severed_keeps : WorldLaws → (s : State) → IsWhole s → (x : List ℕ) (v : Arrays × ℕ) → FineValue s.arrays v → IfOk (bind_severed s x v) (Keeps s)
+severed_keeps laws s whole x v fine =
+    ok_always (Keeps s) (bind_name s.names x v.1) (λ names. Ok (record (ending s v.1) { names = names; arrays = cut v.0 v.1 }, [])) (λ names u h.
     cut_keeps laws s whole v.0 v.1 u fine.2 fine.0.orderly h)
 
+flowing_grown : (s : State) (x : List ℕ) (e : Tree) (v : Arrays × ℕ) → FineValue s.arrays v → IfOk (flowing s x e v) (GrownStep s)
+flowing_grown s x e v fine =
+    ok_always (GrownStep s) (formula_of s.names e) (λ f. bound (begun s v.0 f) x (new_root v.0 (array_in v.0 v.1))) (λ f.
+    bound_grown (begun s v.0 f) x (new_root v.0 (array_in v.0 v.1)) (grown_trans s.arrays v.0 (new_arrays v) fine.2 (root_grown v.0 (array_in v.0 v.1))))
+  where
+    new_arrays : Arrays × ℕ → Arrays
+    new_arrays v =
+        let m : Made = array_in v.0 v.1 in
+        record { world = (v.0.next, root m.ty m.dims m.elems) ∷ v.0.world; next = v.0.next + 1 }
+
 -- and after other dimensions, which are refused for what a watched array is shown through
-unwatched : (w : World) (us : List ℕ) (v u : ℕ) → list_any (λ k. is_listed (path w k) v) us ≡ false → is_listed us u ≡ true → is_listed (path w u) v ≡ false
-unwatched w [] v u none h = cc
-unwatched w (k ∷ us) v u none h =
-    let parts = or_parts (is_listed (path w k) v) (list_any (λ j. is_listed (path w j) v) us) none in
+pub unreached : (w : World) (us : List ℕ) (v u : ℕ) → is_reached w us v ≡ false → is_listed us u ≡ true → is_listed (path w u) v ≡ false
+unreached w [] v u none h = cc
+unreached w (k ∷ us) v u none h =
+    let parts = or_parts (is_listed (path w k) v) (is_reached w us v) none in
     by_test (k == u)
     (λ same. ap (λ x. is_listed (path w x) v) (sym (eqb-true k u same)) ∙ parts.0)
-    (λ other. let rest : is_listed us u ≡ true = rw other at h in unwatched w us v u parts.1 rest)
+    (λ other. let rest : is_listed us u ≡ true = rw other at h in unreached w us v u parts.1 rest)
 
 reshaping_keeps : WorldLaws → (s : State) → IsWhole s → (v : ℕ) → in_world s.arrays.world v ≡ true → (t : Arrays × List Given) → FineTaken s.arrays t → IfOk (reshaping s v t) (Keeps s)
 reshaping_keeps laws s whole v here (b, given) fine =
-    ok_always (Keeps s) (dims_given (b, given)) (λ ds. and_then (reshaped s.watches b v ds) (λ a. Ok (with_arrays s a, []))) (λ ds. by_tests ds (breaks b.world v ds) (is_watched s.watches b.world v) refl)
+    ok_always (Keeps s) (dims_given (b, given)) (λ ds. and_then (reshaped s.watches s.flows b v ds) (λ a. Ok (with_arrays s a, []))) (λ ds.
+    by_tests ds (breaks b.world v ds) (is_watched s.watches b.world v) (is_flow s.flows v) (is_read s.flows b.world v) refl)
   where
-    by_tests : (ds : List ℕ) (x y : Bool) → is_watched s.watches b.world v ≡ y
-        → IfOk (and_then (if x then Err ReshapeBreaks else if y then Err StillWatched else Ok (record b { world = reshape b.world v ds })) (λ a. Ok (with_arrays s a, []))) (Keeps s)
-    by_tests ds true y is = tt
-    by_tests ds false true is = tt
-    by_tests ds false false is = λ u h.
-        let apart : is_listed (path b.world u) v ≡ false = unwatched b.world (attached s.watches) v u is h in
+    by_tests : (ds : List ℕ) (x y z r : Bool) → is_watched s.watches b.world v ≡ y
+        → IfOk (and_then (refused_by x y z r (record b { world = reshape b.world v ds })) (λ a. Ok (with_arrays s a, []))) (Keeps s)
+    by_tests ds true y z r is = tt
+    by_tests ds false true z r is = tt
+    by_tests ds false false true r is = tt
+    by_tests ds false false false true is = tt
+    by_tests ds false false false false is = λ u h.
+        let apart : is_listed (path b.world u) v ≡ false = unreached b.world (attached s.watches) v u is h in
         ap (λ (w : World). elements (reshape w v ds) u) fine.2.is
         ∙ reshape_quiet laws fine.2.more s.arrays.world v u ds whole.sound (subst IsOrderly fine.2.is fine.0.orderly) (sound_live laws s.arrays.world v whole.sound here) (watched_live s whole u h)
         (ap (λ (w : World). is_listed (path w u) v) (sym fine.2.is) ∙ apart)
@@ -271,7 +283,8 @@ effect_keeps laws present s whole (bind x e false) other =
     let order : IsInOrder s = in_order s whole in
     grown_keeps laws s whole (effect present s (bind x e false)) (effect_in_order present s order (bind x e false)) (effect_watches present s (bind x e false) tt)
     (bound_grown s x (value_of s.names s.arrays e) (grown_value s.arrays (value_of s.names s.arrays e) (state_value_fine s order e)))
-effect_keeps laws present s whole (bind x e true) other = severed_keeps laws s whole x (value_of s.names s.arrays e) (state_value_fine s (in_order s whole) e)
+effect_keeps laws present s whole (bind x e true) other =
+    ok_then (FineValue s.arrays) (Keeps s) (value_of s.names s.arrays e) (bind_severed s x) (state_value_fine s (in_order s whole) e) (severed_keeps laws s whole x)
 effect_keeps laws present s whole (bind_list xs e) other =
     let order : IsInOrder s = in_order s whole in
     grown_keeps laws s whole (effect present s (bind_list xs e)) (effect_in_order present s order (bind_list xs e)) (effect_watches present s (bind_list xs e) tt) (several_grown s order xs e)
@@ -291,6 +304,10 @@ effect_keeps laws present s whole (undef x) other =
     ok_always (Keeps s) (unbind s.names x) (λ names. Ok (record s { names = names }, [])) (λ names u h. refl)
 effect_keeps laws present s whole vars other = λ u h. refl
 effect_keeps laws present s whole dump other = ok_always (Keeps s) (dumped s) (λ text. Ok (s, text)) (λ text u h. refl)
+effect_keeps laws present s whole (flow x e) other =
+    let order : IsInOrder s = in_order s whole in
+    grown_keeps laws s whole (effect present s (flow x e)) (effect_in_order present s order (flow x e)) (effect_watches present s (flow x e) tt)
+    (ok_then (FineValue s.arrays) (GrownStep s) (value_of s.names s.arrays e) (flowing s x e) (state_value_fine s order e) (flowing_grown s x e))
 effect_keeps laws present s whole (pp_def f a b) other =
     ok_always (Keeps s) (defined f a b) (kernel_named s f) (λ k. ok_always (Keeps s) (define s.names f k) (λ names. Ok (record s { names = names }, [])) (λ names u h. refl))
 effect_keeps laws present s whole (watch x k) other = ok_always (Keeps s) (bound_to s.names x) (watching present s k) (λ v. rewatched_keeps s (attaching present s.watches k v))

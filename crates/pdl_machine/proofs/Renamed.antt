@@ -15,10 +15,12 @@ use Rattle.pdl_shape.specs.Refusals.{Refusal}
 use Rattle.pdl_shape.specs.Shape.{size_of}
 use Rattle.pdl_world.specs.Cut.{breaks, replaced, rooted, sever, reshape, fitted}
 use Rattle.pdl_world.specs.Formula.{child_dims}
-use Rattle.pdl_world.specs.Paths.{path}
+use Rattle.pdl_world.specs.Paths.{path, root_of}
 use Rattle.pdl_world.specs.Refused.{refusal_at, view_refusal}
+use Rattle.pdl_world.specs.Swept.{is_listed}
 use Rattle.pdl_world.specs.World.{World, ArrayDef, root, view, Look, look, through, seen_through, root_elements, set_elements, elements, dims_in, ty_in, assign, assign_through}
 use Rattle.pdl_machine.specs.Arrays.{Arrays, array_in, with_new}
+use Rattle.pdl_machine.specs.Flows.{flow_by}
 use Rattle.pdl_machine.specs.State.{State}
 use Rattle.pdl_machine.specs.Tidy.{with_parent, with_numbers}
 
@@ -33,6 +35,10 @@ same_test g apart i j =
     (λ other. by_test (g i == g j)
     (λ same. let e : (i == j) ≡ true = eq-eqb i j (apart i j (eqb-true (g i) (g j) same)) in cc)
     (λ apart. apart ∙ sym other))
+
+pub holds_renamed : (g : ℕ → ℕ) → IsApart g → (hs : List ℕ) (i : ℕ) → is_listed (map g hs) (g i) ≡ is_listed hs i
+holds_renamed g apart [] i = refl
+holds_renamed g apart (h ∷ hs) i = ap (λ b. b || is_listed (map g hs) (g i)) (same_test g apart h i) ∙ ap (λ b. (h == i) || b) (holds_renamed g apart hs i)
 
 -- u has the arrays of w under other numbers, and maybe more arrays where these aren't all
 pub data Renames (g : ℕ → ℕ) : (all : Bool) → World → World → Type 0 where
@@ -123,6 +129,14 @@ path_renamed g apart (same {w = w} {u = u} i (view p t) r) v =
     by_test (i == v)
     (λ is. let e : (g i == g v) ≡ true = same_test g apart i v ∙ is in rw (e, is) (ap (λ (ps : List ℕ). g i ∷ ps) (path_renamed g apart r p)))
     (λ other. let e : (g i == g v) ≡ false = same_test g apart i v ∙ other in rw (e, other) (path_renamed g apart r v))
+
+-- an array has the same root
+pub root_of_renamed : (g : ℕ → ℕ) → IsApart g → {all : Bool} {w u : World} → Renames g all w u → (v : ℕ) → root_of u (g v) ≡ g (root_of w v)
+root_of_renamed g apart {all} {w} {u} r v = ap (λ o. option_map_or (λ l. l.root) o (g v)) (look_renamed g apart r v) ∙ by_look (look w v)
+  where
+    by_look : (o : Option Look) → option_map_or (λ l. l.root) (option_map (with_root g) o) (g v) ≡ g (option_map_or (λ l. l.root) o v)
+    by_look None = refl
+    by_look (Some l) = refl
 
 -- a view is refused alike on a path that is as long
 refusal_at_alike : (ps qs : List ℕ) (x : Result (List ℕ) Refusal) → length ps ≡ length qs → refusal_at ps x ≡ refusal_at qs x
@@ -233,3 +247,4 @@ pub record StateAlike (all : Bool) (g : ℕ → ℕ) (s t : State) : Type 0 wher
   pub arrays : AreAlike all g s.arrays t.arrays
   pub names : t.names ≡ with_numbers g s.names
   pub watches : t.watches ≡ map (option_map g) s.watches
+  pub flows : t.flows ≡ map (flow_by g) s.flows

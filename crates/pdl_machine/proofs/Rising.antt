@@ -1,7 +1,6 @@
 -- The numbers of the statements that memory refused rise: a script has too few statements for a count to stay.
 use Rattle.std.proofs.Common.{◌≡◌, ℕ, ◌+◌, ◌-◌, ◌^◌, ◌<◌, ◌≤◌, List, [], ◌∷◌, ◌++◌, map, length, take, Bool, true, false, cond, Option, Some, None, Result, Ok, Err, refl, arith, length-append}
 use Rattle.std.specs.List.{All, AllPairs}
-use Rattle.std.specs.List.Sorted.{IsStrictlyIncreasing}
 use Rattle.std.proofs.Math.Nat.{le_refl, le_trans}
 use Rattle.std.proofs.lemmas.List.{length-map, length-take}
 use Rattle.std.proofs.lemmas.List.Elements.{All-append, All-cons, All-nil}
@@ -18,7 +17,7 @@ use Rattle.pdl_lex.specs.Pieces.{Mark, statement, script_too_long, mode_after, i
 use Rattle.pdl_io.specs.Counts.{next_count}
 use Rattle.pdl_machine.specs.declared.fault.Fault.{Fault}
 use Rattle.pdl_machine.specs.Step.{Done}
-use Rattle.pdl_machine.specs.Run.{Terms, Progress, line_of, fault_ends, counted, after, next_step, after_refusal, after_mark, after_marks, start}
+use Rattle.pdl_machine.specs.Run.{Terms, Progress, line_of, fault_ends, counted, after, next_step, after_mark, after_marks, start}
 use Rattle.pdl_machine.specs.RunLaws.{RefusedRise}
 use Rattle.pdl_machine.proofs.RunLemmas.{by_refusal}
 use Rattle.pdl_machine.proofs.Counted.{each_is_counted}

@@ -1,6 +1,6 @@
 -- What holds of every run.
 use Rattle.std.proofs.Common.{◌≡◌, ℕ, ◌+◌, ◌-◌, ◌^◌, ◌<◌, ◌≤◌, List, [], ◌∷◌, ◌++◌, map, length, take, Bool, true, false, cond, Result, Ok, Err, refl, sym, ◌∙◌, ap, subst, arith, append_assoc, append-nil, length-append}
-use Rattle.std.specs.Prelude.{◌||◌, not, nat_lt, nat_le}
+use Rattle.std.specs.Prelude.{◌||◌, not, nat_le}
 use Rattle.std.specs.List.{All}
 use Rattle.std.proofs.Math.Nat.{le_refl, le_trans}
 use Rattle.std.proofs.lemmas.List.Elements.{All-append, All-cons, All-nil}
@@ -10,7 +10,6 @@ use Rattle.pdl_lex.specs.Bytes.{newlines}
 use Rattle.pdl_lex.specs.Limits.{script_limit}
 use Rattle.pdl_lex.specs.Pieces.{Mark, statement, script_too_long, settled, script_marks}
 use Rattle.pdl_machine.specs.declared.fault.Fault.{Fault}
-use Rattle.pdl_machine.specs.declared.fault.Fault.TheVariants.{ScriptTooLong}
 use Rattle.pdl_machine.specs.Step.{Done}
 use Rattle.pdl_io.specs.Counts.{next_count}
 use Rattle.pdl_machine.specs.Run.{Terms, Progress, line_of, fault_ends, text_after, counted, after, next_step, is_refused, memory_line, refused_limit, after_refusal, after_mark, after_marks, went_wrong, start, run}

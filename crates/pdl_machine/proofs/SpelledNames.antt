@@ -1,10 +1,9 @@
 -- Names and kernels that stand once each, after a binding, the end of a name, and other numbers.
-use Rattle.std.proofs.Common.{◌≡◌, ℕ, suc, ◌+◌, ◌≤◌, List, [], ◌∷◌, length, Bool, true, false, Option, Some, None, Result, Ok, Err, refl, sym, ap, subst, ◌∙◌, arith, nat_eq}
-use Rattle.std.specs.Prelude.{is_none, nat_lt, not, ◌&&◌, if◌then◌else◌}
+use Rattle.std.proofs.Common.{◌≡◌, ℕ, ◌+◌, ◌≤◌, List, [], ◌∷◌, length, Bool, true, false, Some, None, refl, sym, subst, ◌∙◌, arith, nat_eq}
+use Rattle.std.specs.Prelude.{is_none, nat_lt, not, if◌then◌else◌}
 use Rattle.std.specs.Cmp.Lexicographic.{pointwise, same_text, nat_list_eq_equiv}
 use Rattle.std.proofs.lemmas.Bool.{ltb-true}
 use Rattle.pdl_lemmas.specs.Tests.{by_test}
-use Rattle.pdl_lexemes.specs.Texts.{IsName}
 use Rattle.pdl_machine.specs.Names.{Named, found, with_name, without_name, is_full_for}
 use Rattle.pdl_machine.specs.Tidy.{renumbered}
 use Rattle.pdl_machine.specs.Dumpable.{AreEach, AreNames}

@@ -1,6 +1,6 @@
 -- Each value is an array that was there, or the newest one: and a script can spell the views that
 -- come with it.
-use Rattle.std.proofs.Common.{◌≡◌, ℕ, ℤ, pos, List, [], ◌∷◌, ◌++◌, length, map, All, Bool, true, false, Option, Some, None, Result, Ok, Err, inl, inr, ◌⊎◌, refl, sym, ap, subst, ◌∙◌, arith, eqb-true, append_assoc}
+use Rattle.std.proofs.Common.{◌≡◌, ℕ, ℤ, pos, List, [], ◌∷◌, ◌++◌, length, All, Bool, true, false, Option, Some, None, Result, Ok, Err, inl, inr, ◌⊎◌, refl, sym, ap, subst, eqb-true}
 use Rattle.std.specs.Prelude.{◌==◌, ◌&&◌, if◌then◌else◌, IfOk, IfSome, IsTrue, bytes_eq, is_none, option_and_then}
 use Rattle.std.proofs.lemmas.List.Elements.{All-nil, All-cons}
 use Rattle.pdl_lemmas.specs.Options.{choose}
@@ -38,7 +38,7 @@ use Rattle.pdl_machine.specs.Refused.{or_named, reduce_fault}
 use Rattle.pdl_machine.specs.Names.{Names, number_of}
 use Rattle.pdl_machine.specs.Arrays.{Arrays, array_in, with_new}
 use Rattle.pdl_machine.specs.Laws.{AreGrown}
-use Rattle.pdl_machine.specs.Fills.{only, after_type, type_given, numbers_in, number_in, dims_for, fill_outcome}
+use Rattle.pdl_machine.specs.Fills.{only, after_type, type_given, numbers_in, number_in, dims_for}
 use Rattle.pdl_machine.specs.Inquiries.{size_at, long_number, inquiry_outcome, dim_outcome}
 use Rattle.pdl_machine.specs.Views.{slice_fault, slice_by, slice_outcome, arranged, arrangement_outcome, look_up, index_outcome, where_outcome, range_by, range_outcome, edge_of}
 use Rattle.pdl_machine.specs.NiceCalls.{filled_in, slice_by_numbers, slice_in, looking_up, nice_by, nice_outcome}
@@ -47,7 +47,7 @@ use Rattle.pdl_machine.specs.Outcome.{array, string, type_word, Given, Seen, all
 use Rattle.pdl_machine.specs.Operators.{binary_each}
 use Rattle.pdl_machine.specs.Kernels.{kernel_outputs}
 use Rattle.pdl_machine.specs.Calls.{outcome, Callee, builtin, kernel, callee_of, only_root, value_by, call_value}
-use Rattle.pdl_machine.specs.Value.{Taken, known, number_made, value_of, taken}
+use Rattle.pdl_machine.specs.Value.{known, number_made, value_of, taken}
 use Rattle.pdl_machine.specs.Dumpable.{IsAffineWritable, IsIndex, IsWritable, IsViewWritable, ViewsAreWritable}
 use Rattle.pdl_machine.proofs.Orderly.{ok_then, ok_always, grown_self, grown_trans}
 use Rattle.pdl_machine.proofs.SpelledViews.{Laws, IsFine, shown_fine}

@@ -1,29 +1,27 @@
 -- Which views a script can spell: after sweeps, cuts, assignments, and by every call.
-use Rattle.std.proofs.Common.{◌≡◌, ℕ, ℤ, ◌+◌, ◌<◌, ◌≤◌, List, [], ◌∷◌, ◌++◌, length, map, All, Bool, true, false, Option, Some, None, Result, Ok, Err, refl, sym, ap, subst, ◌∙◌, arith, eqb-true}
-use Rattle.std.specs.Prelude.{◌==◌, if◌then◌else◌, IfOk, IfSome, IsTrue, bytes_eq, is_none, option_and_then}
+use Rattle.std.proofs.Common.{◌≡◌, ℕ, ℤ, List, [], ◌∷◌, ◌++◌, All, Bool, true, false, Option, None, refl, sym, ap, subst, ◌∙◌, arith, eqb-true}
+use Rattle.std.specs.Prelude.{◌==◌, if◌then◌else◌}
 use Rattle.std.specs.Option.{option_map_or}
 use Rattle.std.proofs.lemmas.List.Elements.{All-nil, All-weaker}
 use Rattle.pdl_lemmas.specs.Tests.{by_test}
-use Rattle.pdl_lemmas.specs.Options.{choose}
 use Rattle.pdl_elem.specs.declared.Ty.{Ty}
 use Rattle.pdl_elem.specs.declared.Ty.TheVariants.{Longlong}
 use Rattle.pdl_elem.specs.Types.{InRange}
 use Rattle.pdl_elem.specs.Laws.{WrappingLaws}
 use Rattle.pdl_shape.specs.Places.{read}
-use Rattle.pdl_shape.specs.Shape.{IsDims, size_of}
+use Rattle.pdl_shape.specs.Shape.{IsDims}
 use Rattle.pdl_buf.specs.Made.{IsMade}
-use Rattle.pdl_world.specs.declared.Trans.{Trans}
-use Rattle.pdl_world.specs.Cut.{replaced, sever}
+use Rattle.pdl_world.specs.Cut.{replaced}
 use Rattle.pdl_world.specs.CutLaws.{CutsSoundly}
 use Rattle.pdl_world.specs.Sound.{NumbersBelow, IsSound, IsAllowed}
 use Rattle.pdl_world.specs.Swept.{is_listed, parents, kept_onto, sweep}
 use Rattle.pdl_world.specs.World.{World, ArrayDef, root, view, Look, look, set_elements, root_elements, dims_in, ty_in, elements}
-use Rattle.pdl_machine.specs.Tidy.{older, with_parent, renumber}
-use Rattle.pdl_machine.specs.Dumpable.{IsWritable, IsViewWritable, ViewsAreWritable}
+use Rattle.pdl_machine.specs.Tidy.{renumber}
+use Rattle.pdl_machine.specs.Dumpable.{ViewsAreWritable}
 use Rattle.pdl_machine.specs.DumpableLaws.{ShownAreMade}
 use Rattle.pdl_machine.proofs.Renamed.{look-other}
 use Rattle.pdl_machine.proofs.Numbering.{in_world, AreIn, IsOrderly, live_inside}
-use Rattle.pdl_machine.proofs.Steps.{absent, below_rest}
+use Rattle.pdl_machine.proofs.Steps.{unheld, below_rest}
 
 -- ---- worlds of such views
 
@@ -57,16 +55,12 @@ writable_before ((k, view p t) ∷ w) views = (views.0, writable_before w views.
 
 -- ---- new arrays that nothing reaches
 
-unheld_in : (w : World) (hs : List ℕ) (k : ℕ) → NumbersBelow k w → AreIn w hs → is_listed hs k ≡ false
-unheld_in w [] k below there = refl
-unheld_in w (v ∷ hs) k below there = let other : (v == k) ≡ false = absent w k v below there.0 in rw other (unheld_in w hs k below there.1)
-
 -- where all that is held is older, newer arrays go
 pub newer_go : (front w : World) (hs : List ℕ) → IsOrderly (front ++ w) → AreIn w hs → sweep (front ++ w) hs ≡ sweep w hs
 newer_go [] w hs order there = refl
 newer_go ((k, d) ∷ front) w hs order there =
     let P : Bool → Type 0 = λ keeps. kept_onto keeps (k, d) (sweep (front ++ w) (if keeps then parents d ++ hs else hs)) ≡ sweep w hs in
-    subst P (sym (unheld_in w hs k (below_rest front w k order.0) there)) (newer_go front w hs order.2 there)
+    subst P (sym (unheld w hs k (below_rest front w k order.0) there)) (newer_go front w hs order.2 there)
 
 pub set_apart : (front w : World) (r : ℕ) (es : List ℤ) → set_elements (front ++ w) r es ≡ set_elements front r es ++ set_elements w r es
 set_apart [] w r es = refl

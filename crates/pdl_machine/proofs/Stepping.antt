@@ -1,21 +1,24 @@
 -- Values, bindings and what is printed are the same with arrays that differ in their numbers.
-use Rattle.std.proofs.Common.{◌≡◌, ℕ, ℤ, suc, List, [], ◌∷◌, ◌++◌, length, Bool, true, false, Option, Some, None, Result, Ok, Err, codes, refl, sym, ap, subst, ◌∙◌, nat_eq}
+use Rattle.std.proofs.Common.{◌≡◌, ℕ, ℤ, suc, List, [], ◌∷◌, ◌++◌, length, Bool, true, false, Option, Some, None, Result, Ok, Err, codes, map, refl, sym, ap, subst, ◌∙◌, nat_eq}
 use Rattle.std.specs.Prelude.{if◌then◌else◌, option_map, is_none, not, ◌&&◌, nat_lt}
 use Rattle.std.specs.List.{flat_map}
 use Rattle.std.specs.Cmp.Lexicographic.{pointwise}
 use Rattle.pdl_lemmas.specs.Tests.{by_test}
 use Rattle.pdl_buf.specs.declared.made.Made.{Made}
 use Rattle.pdl_world.specs.declared.Trans.{Trans}
+use Rattle.pdl_world.specs.Paths.{root_of}
 use Rattle.pdl_world.specs.Refused.{NoView, view_refusal}
 use Rattle.pdl_world.specs.World.{root, view, assign as assign_in}
 use Rattle.pdl_lexemes.specs.declared.AssignOp.{AssignOp}
 use Rattle.pdl_syntax.specs.Tree.{Tree, Args, number, named, literal, unary, binary, call, none, value, text, of_type}
 use Rattle.pdl_machine.specs.declared.fault.Fault.{Fault}
-use Rattle.pdl_machine.specs.declared.fault.Fault.TheVariants.{TooManyNames, TooManyKernels}
+use Rattle.pdl_machine.specs.declared.fault.Fault.TheVariants.{FlowTarget, TooManyNames, TooManyKernels}
 use Rattle.pdl_machine.specs.declared.builtin.Builtin.{Builtin}
 use Rattle.pdl_machine.specs.Then.{and_then}
 use Rattle.pdl_machine.specs.Names.{KernelTexts, Named, Names, found, number_of, with_name, is_full_for, bind as bind_name, define, names_limit, kernels_limit}
 use Rattle.pdl_machine.specs.Arrays.{Arrays, array_in}
+use Rattle.pdl_machine.specs.Flows.{Flows, is_flow, flow_by}
+use Rattle.pdl_machine.specs.Following.{followed}
 use Rattle.pdl_machine.specs.State.{State, with_arrays}
 use Rattle.pdl_machine.specs.Outcome.{array, string, type_word, Given, Seen, seen, all_seen, Outcome, made, viewed, Valued, new_root, new_view, view_placed, placed}
 use Rattle.pdl_ops.specs.Elementwise.{unary_each}
@@ -24,8 +27,9 @@ use Rattle.pdl_machine.specs.Kernels.{kernel_outputs}
 use Rattle.pdl_machine.specs.Calls.{outcome, builtin_value, Callee, builtin, kernel, callee_of, only_root, several, value_by, call_value}
 use Rattle.pdl_machine.specs.Value.{Taken, known, number_made, value_of, taken}
 use Rattle.pdl_machine.specs.Tidy.{renumbered, with_numbers}
-use Rattle.pdl_machine.specs.Step.{Stepped, bind_value, bound, roots_bound, outputs_bound, kernel_named, list_bound, assigned, assigning, info_line, printed, after_printing, name_line}
-use Rattle.pdl_machine.proofs.Renamed.{AreAlike, StateAlike, view_refusal_renamed, assign_renamed, array_alike, new_alike}
+use Rattle.pdl_machine.specs.Step.{Stepped, bind_value, bound, roots_bound, outputs_bound, kernel_named, list_bound, unless_flow, target_in, assigned, flowed, assigning, info_line, printed, after_printing, name_line}
+use Rattle.pdl_machine.proofs.FlowLemmas.{is_flow_by, followed_alike}
+use Rattle.pdl_machine.proofs.Renamed.{AreAlike, StateAlike, root_of_renamed, view_refusal_renamed, assign_renamed, array_alike, new_alike}
 use Rattle.pdl_machine.proofs.WatchLemmas.{is_none-map}
 use Rattle.pdl_machine.proofs.Both.{Both, both_then, both_same}
 
@@ -127,7 +131,7 @@ known_alike : (g : ℕ → ℕ) (a b : Arrays) → AreAlike true g a b → (o : 
 known_alike g a b h None = refl
 known_alike g a b h (Some v) = (h, refl)
 
-unary_alike : (g : ℕ → ℕ) (f : Made → Made) (v u : Arrays × ℕ) → ValueAlike g v u → Both (ValueAlike g) (new_root v.0 (f (array_in v.0 v.1))) (new_root u.0 (f (array_in u.0 u.1)))
+pub unary_alike : (g : ℕ → ℕ) (f : Made → Made) (v u : Arrays × ℕ) → ValueAlike g v u → Both (ValueAlike g) (new_root v.0 (f (array_in v.0 v.1))) (new_root u.0 (f (array_in u.0 u.1)))
 unary_alike g f (a, v) (b, u) h =
     let same : array_in b u ≡ array_in a v = ap (array_in b) h.1 ∙ array_alike g a b h.0 v in
     let P : Made → Type 0 = λ m. Both (ValueAlike g) (new_root a (f (array_in a v))) (new_root b (f m)) in
@@ -214,13 +218,13 @@ bind_alike g names x v =
     by_room true = refl
     by_room false = ap other (with_name_alike g names.arrays x v)
 
-bind_value_alike : (g : ℕ → ℕ) (s t : State) → StateAlike true g s t → (x : List ℕ) (v w : Arrays × ℕ) → ValueAlike g v w → Both (StepAlike g) (bind_value s x v) (bind_value t x w)
+pub bind_value_alike : (g : ℕ → ℕ) (s t : State) → StateAlike true g s t → (x : List ℕ) (v w : Arrays × ℕ) → ValueAlike g v w → Both (StepAlike g) (bind_value s x v) (bind_value t x w)
 bind_value_alike g s t h x (a, v) (b, w) together =
     let P : Names → Type 0 = λ n. Both (λ n m. m ≡ with_numbers g n) (bind_name s.names x v) (bind_name n x w) in
     let Q : ℕ → Type 0 = λ u. Both (λ n m. m ≡ with_numbers g n) (bind_name s.names x v) (bind_name (with_numbers g s.names) x u) in
     let names : Both (λ n m. m ≡ with_numbers g n) (bind_name s.names x v) (bind_name t.names x w) = subst P (sym h.names) (subst Q (sym together.1) (bind_alike g s.names x v)) in
     both_then (λ n m. m ≡ with_numbers g n) (StepAlike g) (bind_name s.names x v) (bind_name t.names x w) (λ n. Ok (record s { names = n; arrays = a }, [])) (λ n. Ok (record t { names = n; arrays = b }, []))
-    names (λ n m same. (record { arrays = together.0; names = same; watches = h.watches }, refl))
+    names (λ n m same. (record { arrays = together.0; names = same; watches = h.watches; flows = h.flows }, refl))
 
 pub bound_alike : (g : ℕ → ℕ) (s t : State) → StateAlike true g s t → (x : List ℕ) (v w : Valued) → Both (ValueAlike g) v w → Both (StepAlike g) (bound s x v) (bound t x w)
 bound_alike g s t h x v w together = both_then (ValueAlike g) (StepAlike g) v w (bind_value s x) (bind_value t x) together (bind_value_alike g s t h x)
@@ -238,7 +242,7 @@ many_alike : (g : ℕ → ℕ) (s t : State) → StateAlike true g s t → (xs :
 many_alike g s t h xs v w together c =
     let given = several (length xs) (all_seen v.0 v.1) c in
     let P : List Seen → Type 0 = λ x. Both (StepAlike g) (and_then given (roots_bound (with_arrays s v.0) xs)) (and_then (several (length xs) x c) (roots_bound (with_arrays t w.0) xs)) in
-    let alike : StateAlike true g (with_arrays s v.0) (with_arrays t w.0) = record { arrays = together.0; names = h.names; watches = h.watches } in
+    let alike : StateAlike true g (with_arrays s v.0) (with_arrays t w.0) = record { arrays = together.0; names = h.names; watches = h.watches; flows = h.flows } in
     subst P (sym (taken_seen g v w together)) (both_same (StepAlike g) given (roots_bound (with_arrays s v.0) xs) (roots_bound (with_arrays t w.0) xs) (roots_alike g (with_arrays s v.0) (with_arrays t w.0) alike xs))
 
 outputs_alike : (g : ℕ → ℕ) (s t : State) → StateAlike true g s t → (xs : List (List ℕ)) (v w : Arrays × List Given) → TakenAlike g v w → (c : Callee) → Both (StepAlike g) (outputs_bound s xs v c) (outputs_bound t xs w c)
@@ -277,24 +281,49 @@ assigned_alike g sign a b h v w u x same_v same_u =
     (both_same (AreAlike true g) (values_for sign (array_in a v) (array_in a u)) (λ values. Ok (record a { world = assign_in a.world v values })) (write (g v))
     (λ values. arrays_assigned_alike g a b h v values)))
 
+-- an array that may be assigned to, on both sides
+unless_alike : (g : ℕ → ℕ) (s t : State) → StateAlike true g s t → (v w : Arrays × ℕ) → ValueAlike g v w → Both (ValueAlike g) (unless_flow s.flows v) (unless_flow t.flows w)
+unless_alike g s t h (a, v) (b, w) both =
+    let test : is_flow t.flows (root_of b.world w) ≡ is_flow s.flows (root_of a.world v) =
+    ap (λ (flows : Flows). is_flow flows (root_of b.world w)) h.flows
+    ∙ ap (λ u. is_flow (map (flow_by g) s.flows) (root_of b.world u)) both.1
+    ∙ ap (is_flow (map (flow_by g) s.flows)) (root_of_renamed g both.0.apart both.0.world v)
+    ∙ is_flow_by g both.0.apart s.flows (root_of a.world v) in
+    let P : Bool → Type 0 = λ x. Both (ValueAlike g) (unless_flow s.flows (a, v)) (if x then Err FlowTarget else Ok (b, w)) in
+    subst P (sym test) (by_flow (is_flow s.flows (root_of a.world v)))
+  where
+    by_flow : (x : Bool) → Both (ValueAlike g) (if x then Err FlowTarget else Ok (a, v)) (if x then Err FlowTarget else Ok (b, w))
+    by_flow true = refl
+    by_flow false = both
+
+target_alike : (g : ℕ → ℕ) (s t : State) → StateAlike true g s t → (to : Tree) → Both (ValueAlike g) (target_in s to) (target_in t to)
+target_alike g s t h to =
+    both_then (ValueAlike g) (ValueAlike g) (value_of s.names s.arrays to) (value_of t.names t.arrays to) (unless_flow s.flows) (unless_flow t.flows) (state_value_alike g s t h to) (unless_alike g s t h)
+
+-- flows follow alike
+flowed_alike : (g : ℕ → ℕ) (s t : State) → StateAlike true g s t → StateAlike true g (flowed s) (flowed t)
+flowed_alike g s t h =
+    let P : Flows → Type 0 = λ flows. AreAlike true g (followed s.arrays s.flows) (followed t.arrays flows) in
+    record { arrays = subst P (sym h.flows) (followed_alike g s.arrays t.arrays h.arrays s.flows); names = h.names; watches = h.watches; flows = h.flows }
+
 pub assigning_alike : (g : ℕ → ℕ) (s t : State) → StateAlike true g s t → (to : Tree) (sign : AssignOp) (e : Tree) → Both (StepAlike g) (assigning s to sign e) (assigning t to sign e)
 assigning_alike g s t h to sign e =
-    both_then (ValueAlike g) (StepAlike g) (value_of s.names s.arrays to) (value_of t.names t.arrays to) (λ v. and_then (value_of s.names v.0 e) (last s v.1)) (λ v. and_then (value_of t.names v.0 e) (last t v.1))
-    (state_value_alike g s t h to) (λ v w both.
+    both_then (ValueAlike g) (StepAlike g) (target_in s to) (target_in t to) (λ v. and_then (value_of s.names v.0 e) (last s v.1)) (λ v. and_then (value_of t.names v.0 e) (last t v.1))
+    (target_alike g s t h to) (λ v w both.
     both_then (ValueAlike g) (StepAlike g) (value_of s.names v.0 e) (value_of t.names w.0 e) (last s v.1) (last t w.1)
     (right v.0 w.0 both.0) (λ u x both_right.
-    both_then (AreAlike true g) (StepAlike g) (assigned sign u.0 v.1 u.1) (assigned sign x.0 w.1 x.1) (λ a. Ok (with_arrays s a, [])) (λ a. Ok (with_arrays t a, []))
-    (assigned_alike g sign u.0 x.0 both_right.0 v.1 w.1 u.1 x.1 both.1 both_right.1) (λ a b alike. (record { arrays = alike; names = h.names; watches = h.watches }, refl))))
+    both_then (AreAlike true g) (StepAlike g) (assigned sign u.0 v.1 u.1) (assigned sign x.0 w.1 x.1) (λ a. Ok (flowed (with_arrays s a), [])) (λ a. Ok (flowed (with_arrays t a), []))
+    (assigned_alike g sign u.0 x.0 both_right.0 v.1 w.1 u.1 x.1 both.1 both_right.1) (λ a b alike. (flowed_alike g (with_arrays s a) (with_arrays t b) (record { arrays = alike; names = h.names; watches = h.watches; flows = h.flows }), refl))))
   where
     last : State → ℕ → Arrays × ℕ → Stepped
-    last s v u = and_then (assigned sign u.0 v u.1) (λ a. Ok (with_arrays s a, []))
+    last s v u = and_then (assigned sign u.0 v u.1) (λ a. Ok (flowed (with_arrays s a), []))
 
     right : (a b : Arrays) → AreAlike true g a b → Both (ValueAlike g) (value_of s.names a e) (value_of t.names b e)
     right a b alike = let P : Names → Type 0 = λ n. Both (ValueAlike g) (value_of s.names a e) (value_of n b e) in subst P (sym h.names) (value_alike g s.names e a b alike)
 
 pub shown_alike : (g : ℕ → ℕ) (s t : State) → StateAlike true g s t → (is_info : Bool) (v w : Arrays × ℕ) → ValueAlike g v w → StepAlike g (after_printing s is_info v) (after_printing t is_info w)
 shown_alike g s t h is_info (a, v) (b, w) both =
-    (record { arrays = both.0; names = h.names; watches = h.watches }, ap (printed is_info) (sym (ap (array_in b) both.1 ∙ array_alike g a b both.0 v)))
+    (record { arrays = both.0; names = h.names; watches = h.watches; flows = h.flows }, ap (printed is_info) (sym (ap (array_in b) both.1 ∙ array_alike g a b both.0 v)))
 
 pub lines_alike : (g : ℕ → ℕ) (a b : Arrays) → AreAlike true g a b → (names : Named ℕ) → flat_map (name_line a) names ≡ flat_map (name_line b) (renumbered g names)
 lines_alike g a b h [] = refl
@@ -315,4 +344,4 @@ define_alike g s t h f k =
         (step_of s s.names (if b then Err TooManyKernels else Ok (with_name s.names.kernels f k)))
         (step_of t (with_numbers g s.names) (if b then Err TooManyKernels else Ok (with_name s.names.kernels f k)))
     by_room true = refl
-    by_room false = (record { arrays = h.arrays; names = refl; watches = h.watches }, refl)
+    by_room false = (record { arrays = h.arrays; names = refl; watches = h.watches; flows = h.flows }, refl)

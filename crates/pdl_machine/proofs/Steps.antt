@@ -1,10 +1,12 @@
 -- The laws of steps.
-use Rattle.std.proofs.Common.{◌≡◌, ℕ, ℤ, List, [], ◌∷◌, ◌++◌, map, Bool, true, false, Option, Some, None, Result, Ok, Err, inl, inr, refl, sym, ap, subst, ◌∙◌, arith, eqb-true}
-use Rattle.std.specs.Prelude.{◌==◌, if◌then◌else◌, option_map, IfOk}
+use Rattle.std.proofs.Common.{◌≡◌, ℕ, ℤ, List, [], ◌∷◌, ◌++◌, map, Bool, true, false, Option, Some, None, Result, Ok, Err, inl, inr, refl, sym, ap, subst, ◌∙◌, arith, eqb-true, eq-eqb}
+use Rattle.std.specs.Prelude.{◌==◌, ◌||◌, if◌then◌else◌, option_map, IfOk}
 use Rattle.pdl_lemmas.specs.Tests.{by_test}
 use Rattle.pdl_world.specs.declared.Trans.{Trans}
 use Rattle.pdl_world.specs.World.{World, ArrayDef, root, view, elements}
 use Rattle.pdl_world.specs.Sound.{NumbersBelow, IsSound}
+use Rattle.pdl_flow.specs.Formula.{arrays_in}
+use Rattle.pdl_world.specs.Paths.{path}
 use Rattle.pdl_world.specs.Swept.{is_listed, parents, kept_onto, sweep, Has, IsReached, held_itself, parent_of}
 use Rattle.pdl_machine.specs.declared.fault.Fault.{Fault}
 use Rattle.pdl_machine.specs.Names.{number_of}
@@ -14,16 +16,18 @@ use Rattle.pdl_machine.specs.Watches.{Watches, notices}
 use Rattle.pdl_watch.specs.declared.notice.Notice.{Notice}
 use Rattle.pdl_watch.specs.Changes.{changes}
 use Rattle.pdl_syntax.specs.StatementTree.{StatementTree}
-use Rattle.pdl_machine.specs.State.{State, held, AreLive}
-use Rattle.pdl_machine.specs.Tidy.{with_parent, numbered, tidy}
+use Rattle.pdl_machine.specs.Flows.{Flows, all_read, is_reached, Needs, with_flow, needs_of}
+use Rattle.pdl_machine.specs.State.{State, held, needs}
+use Rattle.pdl_machine.specs.Tidy.{with_parent, numbered, settled, tidy}
 use Rattle.pdl_machine.specs.Step.{Stepped, Done, left, done, effect}
 use Rattle.pdl_machine.specs.Laws.{StepsAlike, NewArraysUnseen, AreAllReached, StepsLeaveReached, TidyingShowsTheSame}
-use Rattle.pdl_machine.proofs.Renamed.{IsApart, AreAlike, StateAlike, elements_renamed, array_alike}
+use Rattle.pdl_machine.proofs.Renamed.{IsApart, holds_renamed, AreAlike, StateAlike, elements_renamed, array_alike}
 use Rattle.pdl_machine.proofs.Both.{Both}
 use Rattle.pdl_machine.proofs.Stepping.{StepAlike, number_of_alike}
 use Rattle.pdl_machine.proofs.Effects.{effect_alike}
-use Rattle.pdl_machine.proofs.Tidying.{renamed, holds_renamed, held_alike, tidy_alike}
-use Rattle.pdl_machine.proofs.Numbering.{in_world, live_inside, IsInOrder, in_order, former_numbers, former_apart, swept_is, tidied_alike, swept_alike}
+use Rattle.pdl_machine.proofs.Tidying.{renamed, needs_alike, tidy_alike}
+use Rattle.pdl_machine.proofs.FlowLemmas.{path_other, needs_again}
+use Rattle.pdl_machine.proofs.Numbering.{in_world, AreIn, live_in, front_in, back_in, append_in, IsInOrder, in_order, former_numbers, former_apart, swept_is, tidied_alike, swept_alike}
 use Rattle.pdl_machine.proofs.Orderly.{effect_in_order}
 
 -- the same is told of arrays under other numbers
@@ -71,11 +75,11 @@ steps_are_alike number present s statement whole swept =
 pub tidying_shows_the_same : TidyingShowsTheSame
 tidying_shows_the_same s x whole =
     let g = former_numbers s in
-    let h : StateAlike false g (tidy s) s = tidied_alike s (in_order s whole) in
+    let h : StateAlike false g (tidy s) (settled s) = tidied_alike s (in_order s whole) in
     let name : number_of s.names x ≡ option_map g (number_of (tidy s).names x) = ap (λ names. number_of names x) h.names ∙ number_of_alike g (tidy s).names x in
     sym (ap (option_map (array_in s.arrays)) name ∙ by_number g h (number_of (tidy s).names x))
   where
-    by_number : (g : ℕ → ℕ) → StateAlike false g (tidy s) s → (o : Option ℕ) → option_map (array_in s.arrays) (option_map g o) ≡ option_map (array_in (tidy s).arrays) o
+    by_number : (g : ℕ → ℕ) → StateAlike false g (tidy s) (settled s) → (o : Option ℕ) → option_map (array_in s.arrays) (option_map g o) ≡ option_map (array_in (tidy s).arrays) o
     by_number g h None = refl
     by_number g h (Some v) = ap Some (array_alike g (tidy s).arrays s.arrays h.arrays v)
 
@@ -87,25 +91,68 @@ absent ((k, d) ∷ w) n v below there =
     (λ is. by_test (v == n) (λ is_n. let a : k ≡ v = eqb-true k v is in let b : v ≡ n = eqb-true v n is_n in absurd (omega arith)) (λ other. other))
     (λ other. let t : in_world w v ≡ true = rw other at there in absent w n v below.1 t)
 
-unheld : (w : World) (hs : List ℕ) (k : ℕ) → NumbersBelow k w → AreLive w hs → is_listed hs k ≡ false
-unheld w [] k below live = refl
-unheld w (v ∷ hs) k below live = let other : (v == k) ≡ false = absent w k v below (live_inside w v live.0) in rw other (unheld w hs k below live.1)
+pub unheld : (w : World) (hs : List ℕ) (k : ℕ) → NumbersBelow k w → AreIn w hs → is_listed hs k ≡ false
+unheld w [] k below there = refl
+unheld w (v ∷ hs) k below there = let other : (v == k) ≡ false = absent w k v below there.0 in rw other (unheld w hs k below there.1)
 
 pub below_rest : (more w : World) (k : ℕ) → NumbersBelow k (more ++ w) → NumbersBelow k w
 below_rest [] w k b = b
 below_rest (a ∷ more) w k b = below_rest more w k b.1
 
 -- new arrays that aren't held are swept
-sweep_more : (more w : World) (hs : List ℕ) → IsSound (more ++ w) → AreLive w hs → sweep (more ++ w) hs ≡ sweep w hs
-sweep_more [] w hs sound live = refl
-sweep_more ((k, d) ∷ more) w hs sound live =
+sweep_more : (more w : World) (hs : List ℕ) → IsSound (more ++ w) → AreIn w hs → sweep (more ++ w) hs ≡ sweep w hs
+sweep_more [] w hs sound there = refl
+sweep_more ((k, d) ∷ more) w hs sound there =
     let P : Bool → Type 0 = λ keeps. kept_onto keeps (k, d) (sweep (more ++ w) (if keeps then parents d ++ hs else hs)) ≡ sweep w hs in
-    subst P (sym (unheld w hs k (below_rest more w k sound.0) live)) (sweep_more more w hs sound.2 live)
+    subst P (sym (unheld w hs k (below_rest more w k sound.0) there)) (sweep_more more w hs sound.2 there)
+
+-- and leave the paths of the others
+path_more : (more w : World) (u : ℕ) → IsSound (more ++ w) → in_world w u ≡ true → path (more ++ w) u ≡ path w u
+path_more [] w u sound there = refl
+path_more ((k, d) ∷ more) w u sound there =
+    let other : (k == u) ≡ false = by_test (k == u) (λ same. let e : k ≡ u = eqb-true k u same in let t : (u == k) ≡ true = eq-eqb u k (sym e) in absurd (apart t)) (λ o. o) in
+    path_other k u d (more ++ w) other ∙ path_more more w u sound.2 there
+  where
+    apart : (u == k) ≡ true → ⊥
+    apart t = let f : (u == k) ≡ false = absent w k u (below_rest more w k sound.0) there in cc
+
+reached_more : (more w : World) (hs : List ℕ) (v : ℕ) → IsSound (more ++ w) → AreIn w hs → is_reached (more ++ w) hs v ≡ is_reached w hs v
+reached_more more w [] v sound there = refl
+reached_more more w (h ∷ hs) v sound there =
+    ap (λ (ps : List ℕ). is_listed ps v || is_reached (more ++ w) hs v) (path_more more w h sound there.0)
+    ∙ ap (λ x. is_listed (path w h) v || x) (reached_more more w hs v sound there.1)
+
+-- what is needed is held, or a formula reads it
+pub needs_in : (w u : World) (flows : Flows) (hs : List ℕ) → AreIn w hs → AreIn w (all_read flows) → AreIn w (needs_of u flows hs).arrays
+needs_in w u [] hs there read = there
+needs_in w u (f ∷ flows) hs there read =
+    by_stays (needs_in w u flows hs there (back_in w (arrays_in f.formula) (all_read flows) read)) (is_reached u (needs_of u flows hs).arrays f.root)
+  where
+    by_stays : AreIn w (needs_of u flows hs).arrays → (stays : Bool) → AreIn w (with_flow stays f (needs_of u flows hs)).arrays
+    by_stays rest true = append_in w (arrays_in f.formula) (needs_of u flows hs).arrays (front_in w (arrays_in f.formula) (all_read flows) read) rest
+    by_stays rest false = rest
+
+needs_more : (more w : World) (flows : Flows) (hs : List ℕ) → IsSound (more ++ w) → AreIn w hs → AreIn w (all_read flows) → needs_of (more ++ w) flows hs ≡ needs_of w flows hs
+needs_more more w [] hs sound there read = refl
+needs_more more w (f ∷ flows) hs sound there read =
+    let others : AreIn w (all_read flows) = back_in w (arrays_in f.formula) (all_read flows) read in
+    let n : Needs = needs_of w flows hs in
+    ap (λ (m : Needs). with_flow (is_reached (more ++ w) m.arrays f.root) f m) (needs_more more w flows hs sound there others)
+    ∙ ap (λ (stays : Bool). with_flow stays f n) (reached_more more w n.arrays f.root sound (needs_in w w flows hs there others))
+
+-- the state with these flows and arrays, numbered anew
+abbrev left_with : State → Needs → World → State
+left_with s n w = numbered (record s { flows = n.flows }) w
 
 pub new_arrays_are_unseen : NewArraysUnseen
-new_arrays_are_unseen s a grown sound live =
-    let S : World → Type 0 = λ w. IsSound w in
-    ap (λ w. numbered s (sweep w (held s))) grown.is ∙ ap (numbered s) (sweep_more grown.more s.arrays.world (held s) (subst S grown.is sound) live)
+new_arrays_are_unseen s a grown sound live read =
+    let w : World = s.arrays.world in
+    let both : IsSound (grown.more ++ w) = subst IsSound grown.is sound in
+    let there : AreIn w (held s) = live_in w (held s) live in
+    let others : AreIn w (all_read s.flows) = live_in w (all_read s.flows) read in
+    ap (λ (u : World). left_with s (needs_of u s.flows (held s)) (sweep u (needs_of u s.flows (held s)).arrays)) grown.is
+    ∙ ap (λ (n : Needs). left_with s n (sweep (grown.more ++ w) n.arrays)) (needs_more grown.more w s.flows (held s) both there others)
+    ∙ ap (left_with s (needs s)) (sweep_more grown.more w (needs s).arrays both (needs_in w w s.flows (held s) there others))
 
 -- what is reached from the parents of a newest array that is held is reached with it
 below_newest : (u : World) (hs : List ℕ) (j : ℕ) (e : ArrayDef) → is_listed hs j ≡ true → (k : ℕ) → IsReached u (parents e ++ hs) k → IsReached ((j, e) ∷ u) hs k
@@ -159,15 +206,20 @@ reached_back g apart w hs k (parent_of v p t there r) i same =
     let P : ℕ → Type 0 = λ n. IsReached w hs n in
     subst P (apart h.1 i (h.3 ∙ same)) (parent_of h.0 h.1 t h.4 (reached_back g apart w hs v r h.0 (sym h.2)))
 
+-- what a state needs, by the numbers of the tidied one
+pub needs_before : (s : State) → IsInOrder s → (needs s).arrays ≡ map (former_numbers s) (needs (tidy s)).arrays
+needs_before s order =
+    ap (λ (n : Needs). n.arrays) (sym (needs_again s.arrays.world s.flows (held s)) ∙ needs_alike (former_numbers s) (tidy s) (settled s) (tidied_alike s order))
+
 -- each array of a tidied state is reached
 tidied_reached : (s : State) → IsInOrder s → AreAllReached (tidy s)
 tidied_reached s order k d there =
     let g = former_numbers s in
-    let held_is : held s ≡ map g (held (tidy s)) = held_alike g (tidy s) s (tidied_alike s order) in
-    let P : World → Type 0 = λ u. Has u (g k) (with_parent g d) → IsReached u (held s) (g k) in
+    let hs : List ℕ = (needs s).arrays in
+    let P : World → Type 0 = λ u. Has u (g k) (with_parent g d) → IsReached u hs (g k) in
     let Q : List ℕ → Type 0 = λ hs. IsReached (renamed g (tidy s).arrays.world) hs (g k) in
-    let in_renamed = subst P (swept_is s order) (swept_reached s.arrays.world (held s) (g k) (with_parent g d)) (has_renamed g (tidy s).arrays.world k d there) in
-    reached_back g (former_apart s order) (tidy s).arrays.world (held (tidy s)) (g k) (subst Q held_is in_renamed) k refl
+    let in_renamed = subst P (swept_is s order) (swept_reached s.arrays.world hs (g k) (with_parent g d)) (has_renamed g (tidy s).arrays.world k d there) in
+    reached_back g (former_apart s order) (tidy s).arrays.world (needs (tidy s)).arrays (g k) (subst Q (needs_before s order) in_renamed) k refl
 
 pub steps_leave_reached : StepsLeaveReached
 steps_leave_reached number present s statement came whole is =

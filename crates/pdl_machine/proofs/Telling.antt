@@ -3,14 +3,14 @@ use Rattle.std.proofs.Common.{◌≡◌, ℕ, Bool, List, [], Result, Ok, Err, r
 use Rattle.std.specs.Prelude.{◌⊎◌, IfOk}
 use Rattle.pdl_lexemes.specs.declared.AssignOp.{AssignOp}
 use Rattle.pdl_syntax.specs.Tree.{Tree}
-use Rattle.pdl_syntax.specs.StatementTree.{StatementTree, bind, bind_list, assign, show, show_text, sever, reshape, undef, vars, dump, pp_def, watch, unwatch}
+use Rattle.pdl_syntax.specs.StatementTree.{StatementTree, bind, bind_list, assign, show, show_text, sever, reshape, undef, vars, dump, flow, pp_def, watch, unwatch}
 use Rattle.pdl_watch.specs.Slots.{IsQuiet}
 use Rattle.pdl_machine.specs.declared.fault.Fault.{Fault}
 use Rattle.pdl_machine.specs.Then.{and_then}
 use Rattle.pdl_machine.specs.State.{State, IsWhole}
-use Rattle.pdl_machine.specs.Value.{value_in, value_of}
+use Rattle.pdl_machine.specs.Value.{value_of}
 use Rattle.pdl_machine.specs.Watches.{notices}
-use Rattle.pdl_machine.specs.Step.{Stepped, Done, assigned, assigning, done, effect, target}
+use Rattle.pdl_machine.specs.Step.{Stepped, Done, target_in, assigned, assigning, done, effect, target}
 use Rattle.pdl_machine.specs.Laws.{EitherTextOrNotices}
 use Rattle.pdl_machine.proofs.Orderly.{ok_always}
 use Rattle.pdl_machine.proofs.Quiet.{WorldLaws, only_assignments_tell}
@@ -21,7 +21,7 @@ IsSilent after = after.1 ≡ []
 -- an assignment prints nothing
 assigning_silent : (s : State) (to : Tree) (sign : AssignOp) (e : Tree) → IfOk (assigning s to sign e) IsSilent
 assigning_silent s to sign e =
-    ok_always IsSilent (value_in s to) _ (λ v.
+    ok_always IsSilent (target_in s to) _ (λ v.
     ok_always IsSilent (value_of s.names v.0 e) _ (λ u.
     ok_always IsSilent (assigned sign u.0 v.1 u.1) _ (λ a. refl)))
 
@@ -39,6 +39,7 @@ by_kind laws n present s (reshape x sizes) after whole is = inr (only_assignment
 by_kind laws n present s (undef x) after whole is = inr (only_assignments_tell laws n present s (undef x) after whole (λ a. a) is)
 by_kind laws n present s vars after whole is = inr (only_assignments_tell laws n present s vars after whole (λ a. a) is)
 by_kind laws n present s dump after whole is = inr (only_assignments_tell laws n present s dump after whole (λ a. a) is)
+by_kind laws n present s (flow x e) after whole is = inr (only_assignments_tell laws n present s (flow x e) after whole (λ a. a) is)
 by_kind laws n present s (pp_def f a b) after whole is = inr (only_assignments_tell laws n present s (pp_def f a b) after whole (λ a. a) is)
 by_kind laws n present s (watch x k) after whole is = inr (only_assignments_tell laws n present s (watch x k) after whole (λ a. a) is)
 by_kind laws n present s (unwatch k) after whole is = inr (only_assignments_tell laws n present s (unwatch k) after whole (λ a. a) is)

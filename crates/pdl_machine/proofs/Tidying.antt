@@ -1,26 +1,24 @@
 -- States that differ in numbers, and in arrays that only one has, are the same once they are tidied.
 use Rattle.std.proofs.Common.{◌≡◌, ◌≢◌, ℕ, suc, List, [], ◌∷◌, ◌++◌, length, map, Bool, true, false, Some, None, refl, sym, ap, subst, ◌∙◌, eqb-true}
-use Rattle.std.specs.Prelude.{◌==◌, ◌||◌, if◌then◌else◌, option_map}
+use Rattle.std.specs.Prelude.{◌==◌, if◌then◌else◌, option_map}
 use Rattle.pdl_lemmas.specs.Tests.{by_test}
 use Rattle.pdl_world.specs.World.{World, ArrayDef, root, view}
 use Rattle.pdl_machine.specs.Names.{KernelTexts, Named, Names}
-use Rattle.pdl_machine.specs.State.{State, held}
+use Rattle.pdl_machine.specs.Flows.{Flows, flow_by, Needs, needs_of}
+use Rattle.pdl_machine.specs.State.{State, held, needs, kept}
 use Rattle.pdl_machine.specs.Laws.{LettingGoUnseen, SweepsByFewer}
 use Rattle.pdl_world.specs.Swept.{is_listed, parents, kept_onto, sweep}
 use Rattle.pdl_machine.specs.Tidy.{older, with_parent, renumber, renumbered, with_numbers, tidy}
 use Rattle.std.proofs.lemmas.List.{map-append}
 use Rattle.pdl_machine.specs.Watches.{Watches, attached}
 use Rattle.pdl_machine.proofs.WatchLemmas.{attached_renamed}
-use Rattle.pdl_machine.proofs.Renamed.{IsApart, same_test, Renames, empty, more, same, StateAlike}
+use Rattle.pdl_machine.proofs.Renamed.{IsApart, same_test, holds_renamed, Renames, empty, more, same, StateAlike}
+use Rattle.pdl_machine.proofs.FlowLemmas.{needs_by, needs_renamed, needs_kept, flows_twice}
 
 -- a world under other numbers
 abbrev pub renamed : (ℕ → ℕ) → World → World
 renamed g [] = []
 renamed g ((i, d) ∷ w) = (g i, with_parent g d) ∷ renamed g w
-
-pub holds_renamed : (g : ℕ → ℕ) → IsApart g → (hs : List ℕ) (i : ℕ) → is_listed (map g hs) (g i) ≡ is_listed hs i
-holds_renamed g apart [] i = refl
-holds_renamed g apart (h ∷ hs) i = ap (λ b. b || is_listed (map g hs) (g i)) (same_test g apart h i) ∙ ap (λ b. (h == i) || b) (holds_renamed g apart hs i)
 
 holds_never : (g : ℕ → ℕ) (hs : List ℕ) (k : ℕ) → ((i : ℕ) → g i ≢ k) → is_listed (map g hs) k ≡ false
 holds_never g [] k left = refl
@@ -97,8 +95,20 @@ watches_renamed g apart w (Some v ∷ ws) =
     ap (λ (u : ℕ). Some u ∷ map (option_map (older (renamed g w))) (map (option_map g) ws)) (older_renamed g apart w v)
     ∙ ap (λ (us : Watches). Some (older w v) ∷ us) (watches_renamed g apart w ws)
 
-abbrev pub state_of : Names → World → ℕ → Watches → State
-state_of names w n ws = record { names = names; arrays = record { world = w; next = n }; watches = ws }
+-- and all that it needs
+pub needs_alike : {all : Bool} (g : ℕ → ℕ) (s t : State) → StateAlike all g s t → needs t ≡ needs_by g (needs s)
+needs_alike g s t h =
+    ap (λ (flows : Flows). needs_of t.arrays.world flows (held t)) h.flows
+    ∙ ap (λ (hs : List ℕ). needs_of t.arrays.world (map (flow_by g) s.flows) hs) (held_alike g s t h)
+    ∙ needs_renamed g h.arrays.apart h.arrays.world s.flows (held s)
+
+-- both keep the same arrays
+pub kept_alike : {all : Bool} (g : ℕ → ℕ) (s t : State) → StateAlike all g s t → kept t ≡ renamed g (kept s)
+kept_alike g s t h =
+    ap (λ (n : Needs). sweep t.arrays.world n.arrays) (needs_alike g s t h) ∙ sweep_renamed g h.arrays.apart h.arrays.world (needs s).arrays
+
+abbrev pub state_of : Names → World → ℕ → Watches → Flows → State
+state_of names w n ws flows = record { names = names; arrays = record { world = w; next = n }; watches = ws; flows = flows }
 
 -- arrays' names beside kernels
 abbrev beside : Named KernelTexts → Named ℕ → Names
@@ -108,19 +118,22 @@ beside ks bound = record { arrays = bound; kernels = ks }
 pub tidy_alike : {all : Bool} (g : ℕ → ℕ) (s t : State) → StateAlike all g s t → tidy t ≡ tidy s
 tidy_alike g s t h =
     let apart : IsApart g = h.arrays.apart in
-    let u : World = sweep s.arrays.world (held s) in
-    let held_same : held t ≡ map g (held s) = held_alike g s t h in
-    let swept : sweep t.arrays.world (held t) ≡ renamed g u = ap (sweep t.arrays.world) held_same ∙ sweep_renamed g apart h.arrays.world (held s) in
-    let names : with_numbers (older (sweep t.arrays.world (held t))) t.names ≡ with_numbers (older u) s.names =
+    let u : World = kept s in
+    let swept : kept t ≡ renamed g u = kept_alike g s t h in
+    let names : with_numbers (older (kept t)) t.names ≡ with_numbers (older u) s.names =
     ap (λ w. with_numbers (older w) t.names) swept ∙ ap (with_numbers (older (renamed g u))) h.names ∙ ap (beside s.names.kernels) (names_renamed g apart u s.names.arrays) in
-    let world : renumber (sweep t.arrays.world (held t)) ≡ renumber u = ap renumber swept ∙ renumber_renamed g apart u in
-    let next : length (sweep t.arrays.world (held t)) ≡ length u = ap length swept ∙ length-renamed g u in
-    let watches : map (option_map (older (sweep t.arrays.world (held t)))) t.watches ≡ map (option_map (older u)) s.watches =
+    let world : renumber (kept t) ≡ renumber u = ap renumber swept ∙ renumber_renamed g apart u in
+    let next : length (kept t) ≡ length u = ap length swept ∙ length-renamed g u in
+    let watches : map (option_map (older (kept t))) t.watches ≡ map (option_map (older u)) s.watches =
     ap (λ (w : World). map (option_map (older w)) t.watches) swept ∙ ap (λ (ws : Watches). map (option_map (older (renamed g u))) ws) h.watches ∙ watches_renamed g apart u s.watches in
-    all_same names world next watches
+    let flows : map (flow_by (older (kept t))) (needs t).flows ≡ map (flow_by (older u)) (needs s).flows =
+    ap (λ (w : World). map (flow_by (older w)) (needs t).flows) swept
+    ∙ ap (λ (n : Needs). map (flow_by (older (renamed g u))) n.flows) (needs_alike g s t h)
+    ∙ flows_twice (older (renamed g u)) g (older u) (older_renamed g apart u) (needs s).flows in
+    all_same names world next watches flows
   where
-    all_same : {n m : Names} {w x : World} {k l : ℕ} {ws xs : Watches} → n ≡ m → w ≡ x → k ≡ l → ws ≡ xs → state_of n w k ws ≡ state_of m x l xs
-    all_same p q r o = cc
+    all_same : {n m : Names} {w x : World} {k l : ℕ} {ws xs : Watches} {fs hs : Flows} → n ≡ m → w ≡ x → k ≡ l → ws ≡ xs → fs ≡ hs → state_of n w k ws fs ≡ state_of m x l xs hs
+    all_same p q r o f = cc
 
 -- a sweep by fewer after a sweep by more is the sweep by fewer
 pub sweep_again : SweepsByFewer
@@ -145,8 +158,10 @@ sweep_again ((k, d) ∷ w) many few h = by_keeps (λ m f i. sweep_again w m f i)
     by_keeps rest false true a b = absurd (clash a (h k b))
     by_keeps rest false false a b = rest many few h
 
-abbrev numbered_by : State → World → State
-numbered_by s w = state_of (with_numbers (older w) s.names) (renumber w) (length w) (map (option_map (older w)) s.watches)
+abbrev numbered_by : State → Flows → World → State
+numbered_by s flows w = state_of (with_numbers (older w) s.names) (renumber w) (length w) (map (option_map (older w)) s.watches) (map (flow_by (older w)) flows)
 
 pub letting_go_is_unseen : LettingGoUnseen
-letting_go_is_unseen = λ s many h. ap (numbered_by s) (sweep_again s.arrays.world many (held s) h)
+letting_go_is_unseen = λ s many h.
+    ap (λ (n : Needs). numbered_by s n.flows (sweep (sweep s.arrays.world many) n.arrays)) (needs_kept s.arrays.world many s.flows (held s) h)
+    ∙ ap (numbered_by s (needs s).flows) (sweep_again s.arrays.world many (needs s).arrays h)

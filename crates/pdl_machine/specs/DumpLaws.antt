@@ -1,7 +1,6 @@
 -- What holds of each dump, and dumps worked by hand.
-use Rattle.std.specs.Prelude.{◌≡◌, pos, List, [], ◌∷◌, ◌++◌, ℕ, true, false, map, Result, Ok, Err, codes}
+use Rattle.std.specs.Prelude.{◌≡◌, List, [], ◌∷◌, ◌++◌, ℕ, true, false, map, Result, Ok, Err, codes}
 use Rattle.pdl_image.specs.Dump.{dump as dump_of}
-use Rattle.pdl_syntax.specs.Tree.{named}
 use Rattle.pdl_syntax.specs.StatementTree.{StatementTree, bind, dump, undef}
 use Rattle.pdl_machine.specs.declared.fault.Fault.{Fault}
 use Rattle.pdl_machine.specs.declared.fault.Fault.TheVariants.{StillWatched}
@@ -11,7 +10,7 @@ use Rattle.pdl_machine.specs.Tidy.{tidy}
 use Rattle.pdl_machine.specs.Dumps.{definition, dump_lines, dumped}
 use Rattle.pdl_machine.specs.Worked.{after_all, sequence_to, sliced}
 use Rattle.pdl_machine.specs.WorkedCuts.{called, pdl, whole_numbers}
-use Rattle.pdl_machine.specs.WorkedWatches.{one_watched, told_by, watched_by}
+use Rattle.pdl_machine.specs.WorkedWatches.{one_watched, told_by}
 
 -- the dump of a tidied state names its arrays by their own numbers
 abbrev pub DumpsNameByNumbers : Type 0

@@ -5,7 +5,7 @@ use Rattle.pdl_image.specs.Lines.{Line, script_of}
 use Rattle.pdl_image.specs.Dump.{Definition, dump, is_too_long}
 use Rattle.pdl_world.specs.World.{World}
 use Rattle.pdl_machine.specs.declared.fault.Fault.{Fault}
-use Rattle.pdl_machine.specs.declared.fault.Fault.TheVariants.{DumpTooLong, StillWatched, TooManyNames}
+use Rattle.pdl_machine.specs.declared.fault.Fault.TheVariants.{DumpFlow, DumpTooLong, StillWatched, TooManyNames}
 use Rattle.pdl_machine.specs.Names.{KernelTexts, Named, names_limit}
 use Rattle.pdl_machine.specs.State.{State}
 use Rattle.pdl_machine.specs.Tidy.{older, renumber, renumbered}
@@ -32,10 +32,11 @@ names_wanted s = length s.arrays.world + length s.names.arrays + 1
 abbrev pub text_within : List Line → Result (List ℕ) Fault
 text_within lines = if is_too_long [] lines then Err DumpTooLong else Ok (script_of lines)
 
--- the text of a state's dump, which is refused while a slot is attached, then where its lines bind
--- too many names, and then where it is too long
+-- the text of a state's dump, which is refused while a slot is attached, then while there is a
+-- flow, then where its lines bind too many names, and then where it is too long
 abbrev pub dumped : State → Result (List ℕ) Fault
 dumped s =
     if list_any is_some s.watches then Err StillWatched
+    else if nat_lt 0 (length s.flows) then Err DumpFlow
     else if nat_lt names_limit (names_wanted s) then Err TooManyNames
     else text_within (dump_lines s)

@@ -1,7 +1,7 @@
 -- The text of each fault.
 use Rattle.std.specs.Prelude.{ℕ, List, codes}
 use Rattle.pdl_machine.specs.declared.fault.Fault.{Fault}
-use Rattle.pdl_machine.specs.declared.fault.Fault.TheVariants.{Syntax, StatementTooLong, ScriptTooLong, NumberTooLarge, Ragged, TooDeep, UnknownName, UnknownFunction, WrongArguments, TooManyNames, TooManyKernels, BadSlice, OutOfRange, BadDimension, Mismatch, TooLarge, TooManyDims, DivideByZero, EmptyReduce, BadSignature, BadKernel, TooMuchWork, BadWatcher, ReshapeBreaks, StillWatched, DumpTooLong}
+use Rattle.pdl_machine.specs.declared.fault.Fault.TheVariants.{Syntax, StatementTooLong, ScriptTooLong, NumberTooLarge, Ragged, TooDeep, UnknownName, UnknownFunction, WrongArguments, TooManyNames, TooManyKernels, BadSlice, OutOfRange, BadDimension, Mismatch, TooLarge, TooManyDims, DivideByZero, EmptyReduce, BadSignature, BadKernel, TooMuchWork, BadWatcher, ReshapeBreaks, StillWatched, DumpTooLong, FlowTarget, FlowReads, DumpFlow}
 
 abbrev pub text_of : Fault → List ℕ
 text_of Syntax = codes "syntax error"
@@ -30,3 +30,6 @@ text_of BadWatcher = codes "bad watcher"
 text_of ReshapeBreaks = codes "reshape breaks a view"
 text_of StillWatched = codes "still watched"
 text_of DumpTooLong = codes "dump too long"
+text_of FlowTarget = codes "flow target"
+text_of FlowReads = codes "flow reads it"
+text_of DumpFlow = codes "flow in dump"

@@ -1,5 +1,5 @@
 -- What holds of every step, whatever numbers its arrays have.
-use Rattle.std.specs.Prelude.{◌≡◌, ℕ, Bool, true, List, ◌++◌, Option, Some, option_map, is_some, All, Ok, ◌⊎◌, []}
+use Rattle.std.specs.Prelude.{◌≡◌, ◌↔◌, ℕ, Bool, true, List, ◌++◌, Contains, Option, Some, option_map, is_some, All, Ok, ◌⊎◌, []}
 use Rattle.pdl_elem.specs.Tables.{found_in}
 use Rattle.pdl_buf.specs.declared.made.Made.{Made}
 use Rattle.pdl_world.specs.World.{World, ArrayDef}
@@ -14,7 +14,8 @@ use Rattle.pdl_machine.specs.declared.builtin.Builtin.TheVariants.{Nice}
 use Rattle.pdl_machine.specs.Builtin.{views, builtin_of}
 use Rattle.pdl_machine.specs.Names.{names_limit, kernels_limit, number_of}
 use Rattle.pdl_machine.specs.Arrays.{Arrays, array_in}
-use Rattle.pdl_machine.specs.State.{State, with_arrays, with_world, held, IsSwept, AreLive, IsWhole}
+use Rattle.pdl_machine.specs.Flows.{Flow, all_read, IsNeeded}
+use Rattle.pdl_machine.specs.State.{State, with_arrays, with_world, held, needs, kept, IsSwept, AreLive, IsWhole}
 use Rattle.pdl_machine.specs.Tidy.{tidy}
 use Rattle.pdl_machine.specs.Watches.{Watches, attached, trimmed, AreThere, notices}
 use Rattle.pdl_machine.specs.Step.{Done, effect, step}
@@ -37,7 +38,8 @@ pub record AreGrown (old new : Arrays) : Type 0 where
 -- new arrays that nothing reaches are unseen
 abbrev pub NewArraysUnseen : Type 0
 NewArraysUnseen = (s : State) (a : Arrays) → AreGrown s.arrays a → IsSound a.world →
-    AreLive s.arrays.world (held s) → tidy (with_arrays s a) ≡ tidy s
+    AreLive s.arrays.world (held s) → AreLive s.arrays.world (all_read s.flows) →
+    tidy (with_arrays s a) ≡ tidy s
 
 -- a sweep by fewer after a sweep by more is the sweep by fewer
 abbrev pub SweepsByFewer : Type 0
@@ -45,22 +47,37 @@ SweepsByFewer = (w : World) (many few : List ℕ) →
     ((v : ℕ) → is_listed few v ≡ true → is_listed many v ≡ true) →
     sweep (sweep w many) few ≡ sweep w few
 
--- letting arrays go is unseen, where all that the state holds by itself is held still
+-- letting arrays go is unseen, where all that the state needs is held still
 abbrev pub LettingGoUnseen : Type 0
 LettingGoUnseen = (s : State) (many : List ℕ) →
-    ((v : ℕ) → is_listed (held s) v ≡ true → is_listed many v ≡ true) →
+    ((v : ℕ) → is_listed (needs s).arrays v ≡ true → is_listed many v ≡ true) →
     tidy (with_world s (sweep s.arrays.world many)) ≡ tidy s
 
 -- each array of the state is reached
 abbrev pub AreAllReached : State → Type 0
 AreAllReached s = (k : ℕ) (d : ArrayDef) → Has s.arrays.world k d →
-    IsReached s.arrays.world (held s) k
+    IsReached s.arrays.world (needs s).arrays k
 
 -- after a step each array that is left is reached
 abbrev pub StepsLeaveReached : Type 0
 StepsLeaveReached = (number : ℕ) (present : List Bool) (s : State) (statement : StatementTree)
     (done : Done) → IsWhole s →
     step number present s statement ≡ Ok done → AreAllReached done.state
+
+-- the array is needed for what the state holds by itself
+abbrev pub IsNeededBy : State → ℕ → Type 0
+IsNeededBy s k = IsNeeded s.arrays.world s.flows (held s) k
+
+-- the arrays that are kept are the least set that has those that the state holds by itself, the
+-- parents of its views, and all that a flow reads whose root it has
+abbrev pub KeptAreNeeded : Type 0
+KeptAreNeeded = (s : State) (k : ℕ) (d : ArrayDef) → IsWhole s →
+    (Has (kept s) k d ↔ (Has s.arrays.world k d × IsNeededBy s k))
+
+-- the flows that stay are those whose root is needed: the others end
+abbrev pub NeededFlowsStay : Type 0
+NeededFlowsStay = (s : State) (f : Flow) → IsWhole s →
+    (Contains (needs s).flows f ↔ (Contains s.flows f × IsNeededBy s f.root))
 
 -- what a name shows, if it is bound
 abbrev pub shown_by : State → List ℕ → Option Made

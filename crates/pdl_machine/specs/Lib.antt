@@ -7,6 +7,8 @@ pub mod Outcome
 pub mod Kernels
 pub mod Names
 pub mod Watches
+pub mod Flows
+pub mod Following
 pub mod State
 pub mod Fills
 pub mod Cuts
@@ -17,13 +19,16 @@ pub mod Reductions
 pub mod Operators
 pub mod Calls
 pub mod Value
+pub mod Formulas
 pub mod Tidy
 pub mod Dumps
 pub mod Step
 pub mod Laws
+pub mod FlowLaws
 pub mod Worked
 pub mod WorkedCuts
 pub mod WorkedWatches
+pub mod WorkedFlows
 pub mod WorkedNice
 pub mod DumpLaws
 pub mod Dumpable

@@ -1,5 +1,6 @@
--- `nice`, the call that a nice slice such as `$x(1:3)` is written for (PDL::NiceSlice): a slice by a
--- pattern with numbers in place of its `#`. One value of another count than one looks the array up.
+-- `nice`, the call that a nice slice such as `$x(1:3)` is written for (PDL::NiceSlice): a slice by
+-- a pattern with numbers in place of its `#`. One value of another count than one looks the array
+-- up.
 use Rattle.std.specs.Prelude.{ℕ, ℤ, ◌==◌, ◌&&◌, bytes_eq, if◌then◌else◌, List, [], ◌∷◌, ◌++◌, Option, Some, None, is_none, option_map, Result, Err}
 use Rattle.std.specs.Fmt.{signed_decimal}
 use Rattle.pdl_buf.specs.declared.made.Made.{Made}

@@ -1,5 +1,5 @@
--- A run: the steps by a script's statements in order, all that is printed, and all that watchers are
--- told.
+-- A run: the steps by a script's statements in order, all that is printed, and all that watchers
+-- are told.
 use Rattle.std.specs.Prelude.{ℕ, ◌+◌, ◌==◌, List, [], ◌∷◌, ◌++◌, length, map, nat_lt, nat_le, Bool, true, false, not, ◌||◌, Result, Ok, Err, codes, decimal, if◌then◌else◌}
 use Rattle.std.specs.List.{list_any}
 use Rattle.pdl_lex.specs.declared.Piece.TheVariants.{Whole, TooLong}
@@ -26,8 +26,8 @@ pub record Terms : Type 0 where
 
 -- How far a run has come: the state, all that was printed, whether a fault came, the numbers of the
 -- statements that memory refused, and whether one that wasn't run has ended it; how many statements
--- there were, a count that stays at 2^64 - 1; all notices of each slot; and which slots have a watcher
--- still.
+-- there were, a count that stays at 2^64 - 1; all notices of each slot; and which slots have a
+-- watcher still.
 pub record Progress : Type 0 where
   pub state : State
   pub printed : List ℕ

@@ -77,7 +77,8 @@ FirstFaultEnds = (terms : Terms) (script : List ℕ) → terms.keep ≡ false �
 
 -- where a run is ended, a statement wasn't run
 abbrev pub EndedByAFault : Type 0
-EndedByAFault = (terms : Terms) (ms : List Mark) → (after_marks terms (start terms) ms).ended ≡ true →
+EndedByAFault = (terms : Terms) (ms : List Mark) →
+    (after_marks terms (start terms) ms).ended ≡ true →
     went_wrong (after_marks terms (start terms) ms) ≡ true
 
 -- the statements that memory refused stay written down, in the order in which they came
@@ -106,8 +107,9 @@ abbrev pub NoneIsRefused : Type 0
 NoneIsRefused = (terms : Terms) (script : List ℕ) → terms.refused ≡ [] →
     (run terms script).refused ≡ []
 
--- A statement that memory refuses prints its line alone, and changes nothing that a next one sees. It
--- ends the run unless that goes on after faults, or where it is the last one that may be refused.
+-- A statement that memory refuses prints its line alone, and changes nothing that a next one sees.
+-- It ends the run unless that goes on after faults, or where it is the last one that may be
+-- refused.
 pub record IsRefusedAlone (terms : Terms) (p : Progress) (m : Mark) : Type 0 where
   pub state : (after_mark terms p m).state ≡ p.state
   pub text : (after_mark terms p m).printed ≡ p.printed ++ memory_line (line_of m)

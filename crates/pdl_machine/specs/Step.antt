@@ -1,24 +1,29 @@
 -- One step: what a statement does to a state, what it prints, and what watchers are told.
-use Rattle.std.specs.Prelude.{ℕ, List, [], ◌∷◌, ◌++◌, length, fold, slice_set, Bool, true, false, Result, Ok, Err, codes}
+use Rattle.std.specs.Prelude.{ℕ, List, [], ◌∷◌, ◌++◌, length, fold, slice_set, Bool, true, false, if◌then◌else◌, Result, Ok, Err, codes}
 use Rattle.std.specs.List.{flat_map}
 use Rattle.pdl_buf.specs.declared.made.Made.{Made}
 use Rattle.pdl_world.specs.World.{assign as assign_in}
+use Rattle.pdl_world.specs.Paths.{root_of}
+use Rattle.pdl_flow.specs.Formula.{FormulaTree}
 use Rattle.pdl_print.specs.Printed.{array_text, info}
 use Rattle.pdl_lexemes.specs.declared.AssignOp.{AssignOp}
 use Rattle.pdl_syntax.specs.Tree.{Tree, Args, named, call, none, value, text, of_type}
-use Rattle.pdl_syntax.specs.StatementTree.{StatementTree, View, bind, bind_list, assign, show, show_text, sever, reshape, undef, vars, dump, pp_def, watch, unwatch}
+use Rattle.pdl_syntax.specs.StatementTree.{StatementTree, View, bind, bind_list, assign, show, show_text, sever, reshape, undef, vars, dump, flow, pp_def, watch, unwatch}
 use Rattle.pdl_watch.specs.declared.notice.Notice.{Notice}
 use Rattle.pdl_machine.specs.declared.fault.Fault.{Fault}
-use Rattle.pdl_machine.specs.declared.fault.Fault.TheVariants.{Syntax}
+use Rattle.pdl_machine.specs.declared.fault.Fault.TheVariants.{FlowTarget, Syntax}
 use Rattle.pdl_machine.specs.Then.{and_then}
 use Rattle.pdl_machine.specs.Names.{KernelTexts, bind as bind_name, unbind, bound_to, define}
 use Rattle.pdl_machine.specs.Arrays.{Arrays, array_in}
+use Rattle.pdl_machine.specs.Flows.{Flows, is_flow, without_flow}
+use Rattle.pdl_machine.specs.Following.{followed}
+use Rattle.pdl_machine.specs.Formulas.{formula_of}
 use Rattle.pdl_machine.specs.State.{State, with_arrays}
 use Rattle.pdl_machine.specs.Watches.{attaching, detaching, notices}
 use Rattle.pdl_machine.specs.Outcome.{Given, Valued, all_seen, new_root}
 use Rattle.pdl_machine.specs.Operators.{values_for}
 use Rattle.pdl_machine.specs.Kernels.{defined}
-use Rattle.pdl_machine.specs.Cuts.{cut, severed, dims_given, reshaped}
+use Rattle.pdl_machine.specs.Cuts.{cut, dims_given, reshaped}
 use Rattle.pdl_machine.specs.Calls.{Callee, callee_of, several, value_by}
 use Rattle.pdl_machine.specs.Value.{value_of, value_in, taken}
 use Rattle.pdl_machine.specs.Tidy.{tidy}
@@ -38,6 +43,24 @@ bind_value s x v = and_then (bind_name s.names x v.1) (λ names.
 -- a value bound to a name
 abbrev pub bound : State → List ℕ → Valued → Stepped
 bound s x valued = and_then valued (bind_value s x)
+
+-- the state without the flow of a root
+abbrev pub ending : State → ℕ → State
+ending s v = record s { flows = without_flow s.flows v }
+
+-- a value bound to a name that is cut from its parent: the array itself, and no copy; where it is a
+-- flow's root the flow ends
+abbrev pub bind_severed : State → List ℕ → Arrays × ℕ → Stepped
+bind_severed s x v = bind_value (ending s v.1) x (cut v.0 v.1, v.1)
+
+-- the state with one flow more, whose root is the next of these arrays
+abbrev pub begun : State → Arrays → FormulaTree → State
+begun s a f = record s { flows = s.flows ++ record { root = a.next; formula = f } ∷ [] }
+
+-- a new root of a value, which equals the formula of the expression, bound to a name
+abbrev pub flowing : State → (name : List ℕ) → (formula : Tree) → Arrays × ℕ → Stepped
+flowing s x e v = and_then (formula_of s.names e) (λ f.
+    bound (begun s v.0 f) x (new_root v.0 (array_in v.0 v.1)))
 
 -- new arrays bound to names in order
 abbrev pub roots_bound : State → List (List ℕ) → List Made → Stepped
@@ -72,18 +95,30 @@ behind e (of_type front ty) = of_type (behind e front) ty
 abbrev pub target : List ℕ → List View → Tree
 target x views = fold (λ e v. call v.0 (behind e v.1)) (named x) views
 
+-- an array that may be assigned to: its root isn't a flow's
+abbrev pub unless_flow : Flows → Arrays × ℕ → Valued
+unless_flow flows v = if is_flow flows (root_of v.0.world v.1) then Err FlowTarget else Ok v
+
+-- the array that an assignment writes to
+abbrev pub target_in : State → (target : Tree) → Valued
+target_in s to = and_then (value_in s to) (unless_flow s.flows)
+
 -- the arrays after an assignment of u to v: all values are found before one is written
 abbrev pub assigned : AssignOp → Arrays → (target source : ℕ) → Result Arrays Fault
 assigned sign a v u =
     and_then (values_for sign (array_in a v) (array_in a u)) (λ values.
     Ok (record a { world = assign_in a.world v values }))
 
--- an assignment: its target, its right side, and then what is written
+-- the state in which each flow's root has the elements of what its formula is, one after another
+abbrev pub flowed : State → State
+flowed s = with_arrays s (followed s.arrays s.flows)
+
+-- an assignment: its target, its right side, then what is written, and then flows follow
 abbrev pub assigning : State → (target : Tree) → AssignOp → (source : Tree) → Stepped
 assigning s to sign e =
-    and_then (value_in s to) (λ v.
+    and_then (target_in s to) (λ v.
     and_then (value_of s.names v.0 e) (λ u.
-    and_then (assigned sign u.0 v.1 u.1) (λ a. Ok (with_arrays s a, []))))
+    and_then (assigned sign u.0 v.1 u.1) (λ a. Ok (flowed (with_arrays s a), []))))
 
 -- the line that tells an array's type and dimensions
 abbrev pub info_line : Made → List ℕ
@@ -105,15 +140,15 @@ name_line a n = n.0 ++ codes " " ++ info_line (array_in a n.1)
 abbrev pub kernel_named : State → List ℕ → KernelTexts → Stepped
 kernel_named s f k = and_then (define s.names f k) (λ names. Ok (record s { names = names }, []))
 
--- an array cut from its parent
+-- an array cut from its parent; a flow ends so
 abbrev pub severing : State → ℕ → Stepped
-severing s v = Ok (with_arrays s (cut s.arrays v), [])
+severing s v = Ok (with_arrays (ending s v) (cut s.arrays v), [])
 
 -- an array with the dimensions that arguments give
 abbrev pub reshaping : State → ℕ → Arrays × List Given → Stepped
 reshaping s v t =
     and_then (dims_given t) (λ ds.
-    and_then (reshaped s.watches t.0 v ds) (λ a. Ok (with_arrays s a, [])))
+    and_then (reshaped s.watches s.flows t.0 v ds) (λ a. Ok (with_arrays s a, [])))
 
 -- the watcher of a slot attached to an array, which is no change of it
 abbrev pub watching : (present : List Bool) → State → (slot : ℕ) → (v : ℕ) → Stepped
@@ -129,7 +164,7 @@ unwatching s slot = and_then (detaching s.watches slot) (λ watches.
 -- slots have a watcher
 abbrev pub effect : (present : List Bool) → State → StatementTree → Stepped
 effect present s (bind x e false) = bound s x (value_in s e)
-effect present s (bind x e true) = bound s x (severed (value_in s e))
+effect present s (bind x e true) = and_then (value_in s e) (bind_severed s x)
 effect present s (bind_list xs e) = several_bound s xs e
 effect present s (assign x views sign e) = assigning s (target x views) sign e
 effect present s (show e is_info) = and_then (value_in s e) (λ v. Ok (after_printing s is_info v))
@@ -142,6 +177,7 @@ effect present s (undef x) =
     and_then (unbind s.names x) (λ names. Ok (record s { names = names }, []))
 effect present s vars = Ok (s, flat_map (name_line s.arrays) s.names.arrays)
 effect present s dump = and_then (dumped s) (λ text. Ok (s, text))
+effect present s (flow x e) = and_then (value_in s e) (flowing s x e)
 effect present s (pp_def f signature code) = and_then (defined f signature code) (kernel_named s f)
 effect present s (watch x slot) = and_then (bound_to s.names x) (watching present s slot)
 effect present s (unwatch slot) = unwatching s slot

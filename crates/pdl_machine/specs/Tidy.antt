@@ -1,8 +1,9 @@
--- What is left of a state after a statement: the arrays that it reaches, numbered anew.
+-- What is left of a state after a statement: the arrays and flows that it keeps, numbered anew.
 use Rattle.std.specs.Prelude.{ℕ, ◌==◌, [], ◌∷◌, map, length, option_map, if◌then◌else◌}
 use Rattle.pdl_world.specs.World.{World, ArrayDef, root, view}
 use Rattle.pdl_machine.specs.Names.{Named, Names}
-use Rattle.pdl_machine.specs.State.{State, with_arrays, kept}
+use Rattle.pdl_machine.specs.Flows.{flow_by}
+use Rattle.pdl_machine.specs.State.{State, with_arrays, needs, kept}
 
 -- how many arrays of the world are older than this one
 abbrev pub older : World → ℕ → ℕ
@@ -29,14 +30,21 @@ with_numbers f names = record names { arrays = renumbered f names.arrays }
 
 -- the state with other numbers in all that names arrays
 abbrev pub map_numbers : (ℕ → ℕ) → State → State
-map_numbers f s =
-    record s { names = with_numbers f s.names; watches = map (option_map f) s.watches }
+map_numbers f s = record s {
+  names = with_numbers f s.names;
+  watches = map (option_map f) s.watches;
+  flows = map (flow_by f) s.flows;
+}
 
 -- a state whose arrays are these, numbered anew
 abbrev pub numbered : State → World → State
 numbered s w = with_arrays (map_numbers (older w) s)
     (record { world = renumber w; next = length w })
 
--- the state without the arrays that it doesn't reach, numbered anew
+-- the state without the flows that it doesn't keep
+abbrev pub settled : State → State
+settled s = record s { flows = (needs s).flows }
+
+-- the state without the flows and the arrays that it doesn't keep, numbered anew
 abbrev pub tidy : State → State
-tidy s = numbered s (kept s)
+tidy s = numbered (settled s) (kept s)

@@ -48,8 +48,8 @@ is_present present k = get_or present k false
 
 -- slot k attached to array v, which a slot without a watcher and one that is attached are refused
 abbrev pub attaching : (present : List Bool) → Watches → (k v : ℕ) → Result Watches Fault
-attaching present ws k v = if is_present present k && is_none (watch_of ws k) then Ok (attach ws k v)
-    else Err BadWatcher
+attaching present ws k v =
+    if is_present present k && is_none (watch_of ws k) then Ok (attach ws k v) else Err BadWatcher
 
 -- slot k not attached any more, which one that isn't attached is refused
 abbrev pub detaching : Watches → (k : ℕ) → Result Watches Fault

@@ -90,8 +90,9 @@ view_watched =
     bind (codes "x") (sequence_to 3) false
     ∷ bind (codes "y") (sliced (codes "x") (codes "1")) false ∷ watch (codes "y") 0 ∷ []
 
--- each refusal of watchers: a slot that isn't there, has no watcher or is attached already; one that
--- isn't attached; and other dimensions for an array that is watched, or through which one is shown
+-- each refusal of watchers: a slot that isn't there, has no watcher or is attached already; one
+-- that isn't attached; and other dimensions for an array that is watched, or through which one is
+-- shown
 pub record WatchersAreRefused : Type 0 where
   pub name : told_by (true ∷ []) (watch (codes "z") 9 ∷ []) ≡ Err UnknownName
   pub no_slot : told_by [] one_watched ≡ Err BadWatcher

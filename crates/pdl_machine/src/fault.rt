@@ -58,6 +58,12 @@ pub enum Fault {
     StillWatched,
     /// A dump would have more than 8,388,608 bytes, or a statement of more than 65,536.
     DumpTooLong,
+    /// An assignment to a flow's root or through a view of it, or other dimensions for one.
+    FlowTarget,
+    /// Other dimensions for an array that a flow reads, or on the path of one that it reads.
+    FlowReads,
+    /// A dump while there is a flow.
+    DumpFlow,
 }
 
 /// The text that names the fault in a script's output.
@@ -91,5 +97,8 @@ pub fn fault_text(fault: Fault) -> &'static str
         Fault::ReshapeBreaks => "reshape breaks a view",
         Fault::StillWatched => "still watched",
         Fault::DumpTooLong => "dump too long",
+        Fault::FlowTarget => "flow target",
+        Fault::FlowReads => "flow reads it",
+        Fault::DumpFlow => "flow in dump",
     }
 }

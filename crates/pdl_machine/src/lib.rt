@@ -19,8 +19,8 @@ pub use dumpable::dumpable_laws;
 pub use dumping::{dump_law, worked_dumps};
 pub use fault::{Fault, fault_text};
 pub use laws::{
-    limits_law, numbering_laws, reaching_laws, view_words, watching_laws, worked_cuts, worked_nice,
-    worked_scripts, worked_watches,
+    flow_laws, limits_law, numbering_laws, reaching_laws, view_words, watching_laws, worked_cuts,
+    worked_flows, worked_nice, worked_scripts, worked_watches,
 };
 pub use limits::{MOST_KERNELS, MOST_NAMES, MOST_REFUSED};
 pub use reading::{reads_law, run_laws, so_far_laws};

@@ -9,9 +9,9 @@ use pdl_nice::{plain_meaning, texts_stay};
 use pdl_syntax::parsing_is_the_grammar;
 use pdl_watch::slot_laws;
 
-/// What a run reads a text as is what it means (`means`), and it means nothing else (`one`): the one
-/// statement that the grammar spells with the tokens of its plain text, or why it has no plain text,
-/// or the first check that refuses these tokens. Of a plain text it is what the grammar says
+/// What a run reads a text as is what it means (`means`), and it means nothing else (`one`): the
+/// one statement that the grammar spells with the tokens of its plain text, or why it has no plain
+/// text, or the first check that refuses these tokens. Of a plain text it is what the grammar says
 /// (`plain`), and a text without nice slices reads as it stands (`stays`). The call does nothing
 /// when it runs.
 pub fn reads_law()
@@ -31,10 +31,10 @@ pub fn reads_law()
 /// of a script count. What watchers were told stays too (`told`). Each statement is counted
 /// (`counted`), and its notices have that number (`numbered`). No slot gets a watcher
 /// (`none_comes`, `none_in_a_run`), and each that is attached has one (`there`, `there_in_a_run`).
-/// A statement that memory refuses prints its line alone (`alone`). Those that it refused stay written
-/// down (`refused`): each is one that the run was given no memory for, and came to
-/// (`refused_in_a_run`), at most 64 (`few`, `most`), in rising order (`rising`), and none where there is
-/// memory (`none_refused`). The call does nothing when it runs.
+/// A statement that memory refuses prints its line alone (`alone`). Those that it refused stay
+/// written down (`refused`): each is one that the run was given no memory for, and came to
+/// (`refused_in_a_run`), at most 64 (`few`, `most`), in rising order (`rising`), and none where
+/// there is memory (`none_refused`). The call does nothing when it runs.
 pub fn run_laws()
     ensures ended { EndedStays }
     ensures printed { PrintedStays }

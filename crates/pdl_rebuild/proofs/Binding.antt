@@ -41,7 +41,7 @@ module _ (ws : Watches) (kernels : Named KernelTexts) (names : Named ℕ) (x : L
       ≡ Ok (state_with ws kernels (names ++ one_name x j) u next, [])
   value_bound w u n next j e valued =
       ap (λ v. and_then v (bind_value (state_with ws kernels names w n) x)) valued
-      ∙ ap (λ r. and_then (and_then r (λ arrays. Ok (record { arrays = arrays; kernels = kernels }))) (λ ns. Ok (record { names = ns; arrays = record { world = u; next = next }; watches = ws }, [])))
+      ∙ ap (λ r. and_then (and_then r (λ arrays. Ok (record { arrays = arrays; kernels = kernels }))) (λ ns. Ok (record { names = ns; arrays = record { world = u; next = next }; watches = ws; flows = [] }, [])))
       (new_entered names_limit TooManyNames names x j fresh few)
 
 -- a new array that is bound to a new name, behind passing ones

@@ -30,7 +30,7 @@ names_are_bound more ws kernels names w x other v resting fresh few is =
 undef_effect : (ws : Watches) (kernels : Named KernelTexts) (front back : Named ℕ) (w : World) (x : List ℕ) (v : ℕ) (present : List Bool) → found front x ≡ None
     → effect present (state_of ws kernels (front ++ (one_name x v ++ back)) w) (undef x) ≡ Ok (state_of ws kernels (front ++ back) w, [])
 undef_effect ws kernels front back w x v present fresh =
-    ap₂ (λ o left_names. and_then (and_then (or_fault UnknownName o) (λ u. Ok (record { arrays = left_names; kernels = kernels }))) (λ ns. Ok (record { names = ns; arrays = record { world = w; next = length w }; watches = ws }, [])))
+    ap₂ (λ o left_names. and_then (and_then (or_fault UnknownName o) (λ u. Ok (record { arrays = left_names; kernels = kernels }))) (λ ns. Ok (record { names = ns; arrays = record { world = w; next = length w }; watches = ws; flows = [] }, [])))
     (found_back front (one_name x v ++ back) x fresh ∙ here) (without_it front back x v fresh)
   where
     here : found (one_name x v ++ back) x ≡ Some v
@@ -54,6 +54,6 @@ pub kernels_are_defined : KernelsAreDefined
 kernels_are_defined ws kernels names w f texts resting fresh few is =
     leads_by ws (state_of ws kernels names w) (state_of ws (kernels ++ one_name f texts) names w) (state_of ws (kernels ++ one_name f texts) names w) (pp_def f texts.signature texts.code) resting.idle refl refl (λ present. refl)
     (λ present. ap (λ r. and_then r (kernel_named (state_of ws kernels names w) f)) is
-    ∙ ap (λ r. and_then (and_then r (λ ks. Ok (record { arrays = names; kernels = ks }))) (λ ns. Ok (record { names = ns; arrays = record { world = w; next = length w }; watches = ws }, [])))
+    ∙ ap (λ r. and_then (and_then r (λ ks. Ok (record { arrays = names; kernels = ks }))) (λ ns. Ok (record { names = ns; arrays = record { world = w; next = length w }; watches = ws; flows = [] }, [])))
     (new_entered kernels_limit TooManyKernels kernels f texts fresh few))
     (tidy_passing ws resting.idle (kernels ++ one_name f texts) names [] w (length w) resting.order tt resting.below resting.kept)

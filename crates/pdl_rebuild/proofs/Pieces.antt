@@ -40,7 +40,7 @@ use Rattle.pdl_machine.specs.Arrays.{Arrays, with_new, array_in}
 use Rattle.pdl_machine.specs.Names.{KernelTexts, Named, Names, found}
 use Rattle.pdl_machine.specs.Operators.{values_for}
 use Rattle.pdl_machine.specs.State.{with_arrays}
-use Rattle.pdl_machine.specs.Step.{assigned, assigning, target}
+use Rattle.pdl_machine.specs.Step.{assigned, assigning, target, unless_flow}
 use Rattle.pdl_machine.specs.Then.{and_then}
 use Rattle.pdl_machine.specs.Value.{value_of}
 use Rattle.pdl_machine.specs.Operators.{binary_each}
@@ -211,7 +211,7 @@ module _ (laws : PieceLaws) (ws : Watches) (kernels : Named KernelTexts) (names 
       assigning_is : assigning (state_of ws kernels names (with_root w ty ds es)) (target x ((codes "flat", none) ∷ (codes "slice", text none t) ∷ [])) Set source
           ≡ Ok (state_with ws kernels names (passing ++ with_root w ty ds new) (suc (length w) + length all_new), [])
       assigning_is =
-          ap (λ r. and_then r (λ v. and_then (value_of by_name v.0 source) (λ u. and_then (assigned Set u.0 v.1 u.1) (λ b. Ok (with_arrays (state_of ws kernels names (with_root w ty ds es)) b, []))))) part_valued
+          ap (λ r. and_then (and_then r (unless_flow [])) (λ v. and_then (value_of by_name v.0 source) (λ u. and_then (assigned Set u.0 v.1 u.1) (λ b. Ok (with_arrays (state_of ws kernels names (with_root w ty ds es)) b, []))))) part_valued
           ∙ ap (λ r. and_then r (λ u. and_then (assigned Set u.0 (suc (length w) + 1) u.1) (λ b. Ok (with_arrays (state_of ws kernels names (with_root w ty ds es)) b, [])))) valued
           ∙ ap (λ r. and_then r (λ b. Ok (with_arrays (state_of ws kernels names (with_root w ty ds es)) b, []))) assigned_is
 

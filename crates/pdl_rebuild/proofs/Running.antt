@@ -99,4 +99,4 @@ dumps_go_on rebuild reread goes_on keep present s text rest can is short =
 
 pub runs_begin_so : RunsBeginSo
 runs_begin_so terms s none =
-    ap (λ ws. come_to terms (record { names = nothing_named; arrays = no_arrays; watches = ws }) 0) none
+    ap (λ ws. come_to terms (record { names = nothing_named; arrays = no_arrays; watches = ws; flows = [] }) 0) none

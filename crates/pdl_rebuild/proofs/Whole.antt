@@ -1,7 +1,7 @@
 -- The dump of a state leads to that state.
 use Rattle.std.proofs.Common.{◌≡◌, ℕ, ◌+◌, ◌≤◌, false, List, [], ◌∷◌, ◌++◌, length, refl, sym, ◌∙◌, ap, ap₂, subst, arith, map, append-nil}
 use Rattle.std.proofs.lemmas.Bool.{ltb-false}
-use Rattle.std.proofs.lemmas.List.{map-append}
+use Rattle.std.proofs.lemmas.List.{map-append, nil_from_length}
 use Rattle.std.specs.List.{list_any}
 use Rattle.std.specs.Prelude.{Ok, Err, nat_lt, is_some}
 use Rattle.pdl_lemmas.specs.Tests.{by_test}
@@ -24,7 +24,8 @@ use Rattle.pdl_machine.specs.declared.fault.Fault.{Fault}
 use Rattle.pdl_machine.specs.Dumpable.{AreEach, IsDefined, IsWritable, IsViewWritable, ViewsAreWritable, IsDumpable}
 use Rattle.pdl_machine.specs.Dumps.{definition, dump_lines, dumped, names_wanted}
 use Rattle.pdl_machine.specs.Names.{KernelTexts, Named, names_limit}
-use Rattle.pdl_machine.specs.State.{State, AreLive}
+use Rattle.pdl_machine.specs.Flows.{Flows, needs_of}
+use Rattle.pdl_machine.specs.State.{State, held, AreLive}
 use Rattle.pdl_machine.specs.Tidy.{renumber}
 use Rattle.pdl_machine.specs.Watches.{Watches, attached}
 use Rattle.pdl_rebuild.specs.Named.{NamesAreBound, NamesEnd, KernelsAreDefined}
@@ -131,10 +132,18 @@ err_ok same = absurd (cc)
 not_watched : (s : State) (text : List ℕ) → dumped s ≡ Ok text → list_any is_some s.watches ≡ false
 not_watched s text is = by_test (list_any is_some s.watches) (λ watched. absurd (err_ok (rw watched at is))) (λ idle. idle)
 
+none_flow : (s : State) (text : List ℕ) → dumped s ≡ Ok text → nat_lt 0 (length s.flows) ≡ false
+none_flow s text is = by_test (nat_lt 0 (length s.flows)) (λ some. absurd (err_ok (rw (not_watched s text is, some) at is))) (λ none. none)
+
+no_flows : (s : State) (text : List ℕ) → dumped s ≡ Ok text → s.flows ≡ []
+no_flows s text is =
+    let none : length s.flows ≤ 0 = ltb-false 0 (length s.flows) (none_flow s text is) in
+    nil_from_length s.flows (omega arith)
+
 few_wanted : (s : State) (text : List ℕ) → dumped s ≡ Ok text → names_wanted s ≤ 512
 few_wanted s text is =
     by_test (nat_lt names_limit (names_wanted s))
-    (λ many. absurd (err_ok (rw (not_watched s text is, many) at is)))
+    (λ many. absurd (err_ok (rw (not_watched s text is, none_flow s text is, many) at is)))
     (λ few. ltb-false names_limit (names_wanted s) few)
 
 pub dumps_rebuild : WholeLaws → DumpsRebuild
@@ -145,11 +154,13 @@ dumps_rebuild laws s text can is =
     let kernels : Named KernelTexts = s.names.kernels in
     let stem : List ℕ = stem_of (map (λ n. n.0) names) in
     let idle : list_any is_some ws ≡ false = not_watched s text is in
+    let none : s.flows ≡ [] = no_flows s text is in
     let few : length w + length names + 1 ≤ 512 = few_wanted s text is in
     let order : InOrder w = in_order laws.below w can.whole.sound can.numbered.world in
     let below : AreBelow (length w) (arrays_of names) = live_below laws.below w (length w) (arrays_of names) (attached ws) (order_below w order) can.whole.live in
     let kept : KeepsAll w (arrays_of names) =
-    ap (sweep w) (sym (append-nil (arrays_of names)) ∙ ap (λ vs. arrays_of names ++ vs) (sym (idle_attached ws idle))) ∙ can.swept in
+    ap (sweep w) (sym (append-nil (arrays_of names)) ∙ ap (λ vs. arrays_of names ++ vs) (sym (idle_attached ws idle)))
+    ∙ ap (λ (flows : Flows). sweep w (needs_of w flows (held s)).arrays) (sym none) ∙ can.swept.arrays in
     let resting : IsResting ws names w = record { idle = idle; order = order; below = below; kept = kept } in
     let lines_are : dump_lines s ≡ dump (map definition kernels) w names =
     ap₂ (λ u ns. dump (map definition kernels) u ns) can.numbered.world (names_same w names order below) in
@@ -180,8 +191,9 @@ dumps_rebuild laws s text can is =
     let all : AllLead nothing (map line_tree (kernel_part ++ (world_part ++ (name_part ++ undef_part)))) ended =
     joined nothing defined_all ended kernel_part (world_part ++ (name_part ++ undef_part)) first
     (joined defined_all made_all ended world_part (name_part ++ undef_part) second (joined made_all bound_all ended name_part undef_part third fourth)) in
-    subst (λ n. AllLead (emptied s) (map line_tree (dump_lines s)) (record s { arrays = record { world = w; next = n } })) (sym can.numbered.next)
-    (subst (λ ls. AllLead (emptied s) (map line_tree ls) ended) (sym lines_are) all)
+    subst (λ (flows : Flows). AllLead (emptied s) (map line_tree (dump_lines s)) (record s { flows = flows })) (sym none)
+    (subst (λ n. AllLead (emptied s) (map line_tree (dump_lines s)) (record s { arrays = record { world = w; next = n }; flows = [] })) (sym can.numbered.next)
+    (subst (λ ls. AllLead (emptied s) (map line_tree ls) ended) (sym lines_are) all))
   where
     joined : (s t u : State) (xs ys : List Line) → AllLead s (map line_tree xs) t → AllLead t (map line_tree ys) u → AllLead s (map line_tree (xs ++ ys)) u
     joined s t u xs ys a b = subst (λ zs. AllLead s zs u) (sym (map-append line_tree xs ys)) (then_lead s t u (map line_tree xs) (map line_tree ys) a b)

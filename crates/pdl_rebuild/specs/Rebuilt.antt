@@ -7,12 +7,14 @@ use Rattle.pdl_machine.specs.Names.{KernelTexts, Named}
 use Rattle.pdl_machine.specs.State.{State}
 use Rattle.pdl_machine.specs.Watches.{Watches}
 
--- a state of slots, kernels, names and arrays, in which the next array gets this number
+-- a state of slots, kernels, names and arrays, without flows, in which the next array gets this
+-- number
 abbrev pub state_with : Watches → Named KernelTexts → Named ℕ → World → (next : ℕ) → State
 state_with ws kernels names w next = record {
   names = record { arrays = names; kernels = kernels };
   arrays = record { world = w; next = next };
   watches = ws;
+  flows = [];
 }
 
 -- in which the next array gets the number of arrays

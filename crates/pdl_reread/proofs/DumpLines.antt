@@ -1,10 +1,10 @@
 -- Each line of a state's dump is one that reads as its statement.
-use Rattle.std.proofs.Common.{◌≡◌, ℕ, zero, suc, ◌+◌, ◌-◌, ◌*◌, ◌/◌, ◌%◌, ◌<◌, ◌≤◌, min, Bool, true, false, List, [], ◌∷◌, ◌++◌, length, take, drop, map, replicate, All, ℤ, pos, negsuc, nat_abs, Option, Some, None, Result, Ok, Err, refl, sym, ◌∙◌, ap, subst, arith, eqb-true, length-drop}
+use Rattle.std.proofs.Common.{◌≡◌, ℕ, zero, suc, ◌+◌, ◌-◌, ◌*◌, ◌/◌, ◌%◌, ◌<◌, ◌≤◌, min, Bool, true, false, List, [], ◌∷◌, ◌++◌, length, take, drop, map, replicate, All, ℤ, pos, negsuc, Option, Some, None, Result, Ok, Err, refl, sym, ◌∙◌, ap, subst, arith, eqb-true, length-drop}
 use Rattle.std.specs.Prelude.{◌==◌, ◌&&◌, ◌||◌, not, nat_lt, if◌then◌else◌, codes, decimal, flat_map, is_none, option_map, option_and_then}
 use Rattle.std.specs.Fmt.{digits, digits_onto, digit_glyph}
 use Rattle.std.specs.List.{list_any, list_all, range_with_len}
 use Rattle.std.specs.Option.{option_map_or}
-use Rattle.std.proofs.lemmas.Bool.{and_parts, eqb-false, ltb-true, ltb-false, lt-ltb}
+use Rattle.std.proofs.lemmas.Bool.{and_parts, eqb-false, ltb-false, lt-ltb}
 use Rattle.std.proofs.lemmas.Int.{ints}
 use Rattle.std.proofs.lemmas.List.{length-map, length-take}
 use Rattle.std.proofs.lemmas.List.Elements.{All-nil, All-cons, All-head, All-tail, All-take, All-drop, All-map, All-weaker}
@@ -18,16 +18,14 @@ use Rattle.pdl_lex.specs.Bytes.{is_letter, is_word_byte}
 use Rattle.pdl_lex.specs.Limits.{statement_limit}
 use Rattle.pdl_elem.specs.Tables.{found_in}
 use Rattle.pdl_lex.specs.declared.TokenKind.TheVariants.{Name}
-use Rattle.pdl_lex.specs.Tokens.{is_word, only_where, kind_of}
+use Rattle.pdl_lex.specs.Tokens.{is_word, only_where}
 use Rattle.pdl_lexemes.specs.Lexing.{keywords}
 use Rattle.pdl_lexemes.specs.Texts.{IsName, IsQuotable, lacks}
 use Rattle.pdl_shape.specs.Laws.{SizeLaws}
 use Rattle.pdl_shape.specs.Limits.{checked_dims}
 use Rattle.pdl_shape.specs.Refusals.{Refusal, bad_dimension}
-use Rattle.pdl_shape.specs.Shape.{IsDims, dims_limit, extent_limit, extent, size_of}
-use Rattle.pdl_buf.specs.Made.{IsMade}
+use Rattle.pdl_shape.specs.Shape.{IsDims, dims_limit, extent_limit, size_of}
 use Rattle.pdl_slices.specs.declared.SliceArg.{SliceArg}
-use Rattle.pdl_slices.specs.declared.SliceFault.{SliceFault}
 use Rattle.pdl_slices.specs.declared.reading.Kind.TheVariants.{Other}
 use Rattle.pdl_slices.specs.declared.reading.Slot.{Slot}
 use Rattle.pdl_slices.specs.declared.reading.Slot.TheVariants.{Single, Bracket, Bracketed, Size, To, By}
@@ -44,28 +42,26 @@ use Rattle.pdl_choice.specs.Range.{is_negative, corner_len, window_sizes, window
 use Rattle.pdl_choice.specs.Where.{is_set}
 use Rattle.pdl_world.specs.declared.Trans.{Trans}
 use Rattle.pdl_world.specs.declared.Trans.TheVariants as trans
-use Rattle.pdl_world.specs.Formula.{child_dims}
-use Rattle.pdl_world.specs.Paths.{depth_limit, path}
-use Rattle.pdl_world.specs.Refused.{NoView, refusal_at, view_refusal}
+use Rattle.pdl_world.specs.Paths.{path}
+use Rattle.pdl_world.specs.Refused.{refusal_at}
 use Rattle.pdl_world.specs.Sound.{IsSound, IsShowable}
-use Rattle.pdl_world.specs.World.{World, ArrayDef, root, view, dims_in}
+use Rattle.pdl_world.specs.World.{World, root, view, dims_in}
 use Rattle.pdl_image.specs.declared.TheConstants.{PIECE}
-use Rattle.pdl_image.specs.Lines.{Call, sliced, numbered, chosen, ranged, Line, kernel_line, root_line, piece_line, least_line, view_line, same_line, undef_line, line_text}
-use Rattle.pdl_image.specs.Stems.{stem, stem_of, least_free, taken, name_at, index_name, is_in}
-use Rattle.pdl_image.specs.Dump.{is_least, as_listed, given_lines, least_lines, filling_lines, piece_lines, piece_count, root_lines, affine_call, edge_number, mask_of, choosing_lines, view_lines, array_lines, world_lines, Definition, definition_line, name_line, undef_lines, dump}
-use Rattle.pdl_machine.specs.declared.fault.Fault.{Fault}
+use Rattle.pdl_image.specs.Lines.{Call, chosen, ranged, Line, piece_line, least_line, view_line, undef_line, line_text}
+use Rattle.pdl_image.specs.Stems.{stem, least_free, taken, name_at, index_name, is_in}
+use Rattle.pdl_image.specs.Dump.{is_least, as_listed, given_lines, least_lines, filling_lines, piece_lines, piece_count, root_lines, affine_call, edge_number, mask_of, choosing_lines, view_lines, world_lines, definition_line, name_line, undef_lines, dump}
 use Rattle.pdl_machine.specs.declared.fault.Fault.TheVariants.{WrongArguments}
 use Rattle.pdl_machine.specs.Builtin.{builtin_of}
-use Rattle.pdl_machine.specs.Kernels.{can_name, kernel_of, texts_of, defined}
+use Rattle.pdl_machine.specs.Kernels.{can_name, defined}
 use Rattle.pdl_machine.specs.Names.{KernelTexts, Named}
-use Rattle.pdl_machine.specs.Dumpable.{AreEach, AreNames, IsDefined, AreRead, IsIndex, IsWritable, ViewsAreWritable, IsDumpable}
+use Rattle.pdl_machine.specs.Dumpable.{AreEach, AreNames, IsDefined, AreRead, IsWritable, ViewsAreWritable, IsDumpable}
 use Rattle.pdl_machine.specs.DumpableLaws.{ShownAreMade}
 use Rattle.pdl_machine.specs.Dumps.{definition, dump_lines}
 use Rattle.pdl_machine.specs.State.{State}
 use Rattle.pdl_machine.specs.Tidy.{older, renumbered}
 use Rattle.pdl_reread.specs.Scripts.{AreLines}
-use Rattle.pdl_reread.specs.Trees.{Fits, AllFit, IsViewWord, IsCall, IsLine}
-use Rattle.pdl_reread.proofs.Fitting.{AreGiven, all_small, checked, two_given, order_given, diagonal_given, dummy_given, clump_given}
+use Rattle.pdl_reread.specs.Trees.{Fits, AllFit, IsCall, IsLine}
+use Rattle.pdl_reread.proofs.Fitting.{all_small, two_given, order_given, diagonal_given, dummy_given, clump_given}
 
 -- the laws of the crates below
 pub record Laws : Type 0 where

@@ -1,6 +1,6 @@
 -- The numbers of views that aren't refused: a list of numbers can hold them, and they are few.
-use Rattle.std.proofs.Common.{◌≡◌, ℕ, zero, suc, ◌+◌, ◌-◌, ◌*◌, ◌<◌, ◌≤◌, max, Bool, true, false, List, [], ◌∷◌, ◌++◌, length, take, drop, replicate, get_or, ℤ, pos, negsuc, nat_abs, Option, Some, None, Result, Ok, Err, refl, sym, ◌∙◌, ap, subst, arith, eqb-true, eq-eqb, length-append}
-use Rattle.std.specs.Prelude.{◌==◌, ◌&&◌, ◌||◌, not, nat_lt, nat_le, if◌then◌else◌, option_map, option_and_then, insert}
+use Rattle.std.proofs.Common.{◌≡◌, ℕ, suc, ◌+◌, ◌-◌, ◌*◌, ◌<◌, ◌≤◌, max, Bool, true, false, List, [], ◌∷◌, ◌++◌, length, take, drop, replicate, ℤ, pos, negsuc, Option, Some, None, Ok, Err, refl, sym, ◌∙◌, ap, subst, arith, eqb-true, eq-eqb, length-append}
+use Rattle.std.specs.Prelude.{◌==◌, ◌&&◌, not, nat_lt, nat_le, option_map, option_and_then, insert}
 use Rattle.std.specs.List.{list_any, list_all, range_with_len, IsDistinct, AllByRecursion}
 use Rattle.std.proofs.Math.Nat.{mul-le-mul}
 use Rattle.std.proofs.Math.Seq.{drop-append_seam}
@@ -15,9 +15,7 @@ use Rattle.pdl_shape.specs.Laws.{SizeLaws}
 use Rattle.pdl_shape.specs.Limits.{checked_dims}
 use Rattle.pdl_shape.specs.Refusals.{Refusal, bad_dimension, too_many_dims, too_large}
 use Rattle.pdl_shape.specs.Shape.{IsDims, dims_limit, extent_limit, extent}
-use Rattle.pdl_affine.specs.declared.Affine.{Affine}
-use Rattle.pdl_affine.specs.declared.Affine.TheVariants as affine
-use Rattle.pdl_affine.specs.Views.{Form, exchanged, shifted, arranged, inserted, diagonal, clumped, all_counted, lists, is_distinct, is_arrangement, are_same_size, new_place, or_refusal, when, inserted_at, sizes, form_dims, dims}
+use Rattle.pdl_affine.specs.Views.{Form, arranged, diagonal, clumped, all_counted, lists, is_distinct, is_arrangement, are_same_size, new_place, or_refusal, when, inserted_at, form_dims}
 use Rattle.pdl_reread.specs.Trees.{Fits, AllSmall, AllFit}
 
 -- ---- sizes

@@ -1,6 +1,5 @@
 -- No line has a nice part, so each is read as it stands.
-use Rattle.std.proofs.Common.{◌≡◌, ℕ, zero, suc, ◌+◌, ◌-◌, ◌≤◌, Bool, false, List, [], ◌∷◌, ◌++◌, length, ℤ, pos, negsuc, refl, sym, ◌∙◌, ap, ap₂, subst, arith, take, drop, append_assoc, Result, Ok, Err}
-use Rattle.std.specs.Prelude.{codes, decimal}
+use Rattle.std.proofs.Common.{◌≡◌, ℕ, ◌+◌, ◌-◌, ◌≤◌, false, List, [], ◌∷◌, ◌++◌, length, ℤ, pos, negsuc, refl, sym, ◌∙◌, ap, ap₂, subst, arith, take, drop, Ok}
 use Rattle.std.proofs.Math.Seq.{take-append_seam, drop-append_seam}
 use Rattle.std.proofs.lemmas.List.{drop-drop}
 use Rattle.pdl_lex.specs.declared.Token.{Token}
@@ -11,14 +10,13 @@ use Rattle.pdl_lexemes.specs.Laws.{TypeWordsAreWords}
 use Rattle.pdl_nice.specs.declared.looks.Before.TheVariants.{Other as another}
 use Rattle.pdl_nice.specs.Looks.{look}
 use Rattle.pdl_nice.specs.Nice.{has_nice}
-use Rattle.pdl_syntax.specs.Parsed.{parsed}
-use Rattle.pdl_image.specs.Lines.{Call, sliced, numbered, chosen, ranged, Line, kernel_line, root_line, piece_line, least_line, view_line, same_line, undef_line, line_text}
+use Rattle.pdl_image.specs.Lines.{sliced, numbered, chosen, ranged, Line, kernel_line, root_line, piece_line, least_line, view_line, same_line, undef_line, line_text}
 use Rattle.pdl_machine.specs.Parsed.{as_read}
-use Rattle.pdl_machine.specs.Reads.{reads, reads_plain, reads_tokens, holds_nice, PlainTextsStay}
+use Rattle.pdl_machine.specs.Reads.{reads, reads_tokens, holds_nice, PlainTextsStay}
 use Rattle.pdl_reread.specs.Scripts.{AreLines}
 use Rattle.pdl_reread.specs.Trees.{IsLine, ReadsAs, LinesAreRead, line_tree}
 use Rattle.pdl_reread.specs.Rereading.{AreReread}
-use Rattle.pdl_reread.proofs.Items.{sizes_items, number_items, more_items, numbers_items, close, close_square, edge_items, call_items, line_items, line_is, line_apart}
+use Rattle.pdl_reread.proofs.Items.{sizes_items, number_items, more_items, numbers_items, close, close_square, edge_items, line_items, line_is, line_apart}
 use Rattle.pdl_reread.proofs.Standing.{apart_are_read}
 
 -- ---- tokens that are written are found again as they are

@@ -1,10 +1,9 @@
 -- The text of a dump is cut into its lines, and each of them is read as its statement.
-use Rattle.std.proofs.Common.{◌≡◌, ℕ, ◌+◌, Bool, true, false, List, [], ◌∷◌, ◌++◌, length, Result, Ok, Err, refl, sym, ◌∙◌, ap, subst}
-use Rattle.std.specs.Prelude.{◌||◌, nat_lt, is_some, if◌then◌else◌}
+use Rattle.std.proofs.Common.{◌≡◌, ℕ, ◌+◌, Bool, true, false, List, [], ◌++◌, length, Result, Ok, Err, sym, ◌∙◌, ap}
+use Rattle.std.specs.Prelude.{◌||◌, nat_lt, is_some}
 use Rattle.std.specs.List.{list_any}
 use Rattle.std.proofs.lemmas.List.{append-nil}
 use Rattle.pdl_lemmas.specs.Tests.{by_test}
-use Rattle.pdl_lex.specs.declared.Piece.{Piece}
 use Rattle.pdl_lex.specs.Joining.{pieces_from}
 use Rattle.pdl_lex.specs.Limits.{statement_limit}
 use Rattle.pdl_lex.specs.Pieces.{pieces}
@@ -12,13 +11,12 @@ use Rattle.pdl_image.specs.declared.TheConstants.{LONGEST_DUMP}
 use Rattle.pdl_image.specs.Lines.{Line, line_text, script_of}
 use Rattle.pdl_image.specs.Dump.{is_too_long}
 use Rattle.pdl_machine.specs.declared.fault.Fault.{Fault}
-use Rattle.pdl_machine.specs.declared.fault.Fault.TheVariants.{DumpTooLong, StillWatched, TooManyNames}
-use Rattle.pdl_machine.specs.Dumpable.{IsDumpable}
+use Rattle.pdl_machine.specs.declared.fault.Fault.TheVariants.{DumpFlow, DumpTooLong, StillWatched, TooManyNames}
 use Rattle.pdl_machine.specs.Dumps.{names_wanted, dump_lines, text_within, dumped}
 use Rattle.pdl_machine.specs.Names.{names_limit}
 use Rattle.pdl_machine.specs.State.{State}
 use Rattle.pdl_reread.specs.Scripts.{AreLines, statements, line_behind, LinesAreStatements}
-use Rattle.pdl_reread.specs.Rereading.{IsReread, DumpsAreReread}
+use Rattle.pdl_reread.specs.Rereading.{DumpsAreReread}
 use Rattle.pdl_reread.proofs.DumpLines as dumps
 use Rattle.pdl_reread.proofs.Plain as plain
 
@@ -51,9 +49,11 @@ unrefused : (s : State) (text : List ℕ) → dumped s ≡ Ok text → text_with
 unrefused s text is =
     by_test (list_any is_some s.watches)
     (λ watched. let e : Err StillWatched ≡ Ok text = rw watched at is in absurd (never e))
-    (λ free. by_test (nat_lt names_limit (names_wanted s))
-    (λ many. let e : Err TooManyNames ≡ Ok text = rw (free, many) at is in absurd (never e))
-    (λ few. rw (free, few) at is))
+    (λ free. by_test (nat_lt 0 (length s.flows))
+    (λ some. let e : Err DumpFlow ≡ Ok text = rw (free, some) at is in absurd (never e))
+    (λ none. by_test (nat_lt names_limit (names_wanted s))
+    (λ many. let e : Err TooManyNames ≡ Ok text = rw (free, none, many) at is in absurd (never e))
+    (λ few. rw (free, none, few) at is)))
   where
     never : {e : Fault} → Err e ≡ Ok text → ⊥
     never e = cc

@@ -11,6 +11,7 @@ use Rattle.std.proofs.lemmas.List.{length-map}
 use Rattle.pdl_world.specs.World.{World}
 use Rattle.pdl_world.specs.Sound.{IsLive}
 use Rattle.pdl_engine.specs.State.{State as Engine}
+use Rattle.pdl_machine.specs.Flows.{Flows}
 use Rattle.pdl_machine.specs.State.{AreLive, IsWhole}
 use Rattle.pdl_machine.specs.Watches.{Watches}
 use Rattle.pdl_machine.specs.declared.fault.Fault.{Fault}
@@ -150,5 +151,5 @@ length_after (n ∷ names) x v = by_name (pointwise nat_eq x n.0) (length_after 
     by_name false rest = omega arith
 
 -- a state is whole with other kernels
-pub whole_defined : (names : Named ℕ) (kernels after : Named KernelTexts) (ws : Watches) (e : Engine) → IsWhole (state_in (names_in names kernels) ws e) → IsWhole (state_in (names_in names after) ws e)
-whole_defined names kernels after ws e whole = record { sound = whole.sound; below = whole.below; live = whole.live }
+pub whole_defined : (names : Named ℕ) (kernels after : Named KernelTexts) (ws : Watches) (fs : Flows) (e : Engine) → IsWhole (state_in (names_in names kernels) ws fs e) → IsWhole (state_in (names_in names after) ws fs e)
+whole_defined names kernels after ws fs e whole = record { sound = whole.sound; below = whole.below; live = whole.live; flows = whole.flows }

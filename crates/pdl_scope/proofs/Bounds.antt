@@ -16,8 +16,9 @@ use Rattle.pdl_world.specs.World.{World, ArrayDef, Look, look, root, view, assig
 use Rattle.pdl_engine.specs.Held.{held_among, one_less_at, written_back, IsReleased}
 use Rattle.pdl_engine.specs.HoldLaws.{NothingIsWritten}
 use Rattle.pdl_engine.specs.Reading.{IsView, IsWarm, KeepsViews, view_as}
-use Rattle.pdl_engine.specs.State.{State as Engine, IsLazy, Joins, SameArrays, TargetIsFresh, is_fresh, target}
+use Rattle.pdl_engine.specs.State.{State as Engine, IsLazy, Joins, SameArrays, TargetIsFresh, target}
 use Rattle.pdl_push.specs.Targets.{target_of}
+use Rattle.pdl_scope.specs.LetGo.{IsLeft}
 
 pub same_views : (w u : World) → w ≡ u → KeepsViews w u
 same_views w u e v is = subst (λ x. IsView x v) e is
@@ -54,7 +55,7 @@ warmed bases e t v vs live is fresh none =
     fresh v live refl (sym own)
 
 -- each array of a world is one
-has_live : (w : World) (v : ℕ) → IsLive w v → (d : ArrayDef) × Has w v d
+pub has_live : (w : World) (v : ℕ) → IsLive w v → (d : ArrayDef) × Has w v d
 has_live [] v live = absurd live
 has_live ((k, root ty ds es) ∷ w) v live = elim (eqb_tells k v) [
   | inl t ↦ (root ty ds es, inl (t.1, refl))
@@ -70,11 +71,6 @@ swept_seen : KeptWereReached → ReachedAreSeenAsBefore → (w : World) (held : 
 swept_seen kept reached w held v sound live =
     let there = has_live (sweep w held) v live in
     (reached w held v sound (kept w held v there.0 there.1).reached).look_is
-
--- Arrays were let go: those that are left are seen as before, and can be lent as before.
-pub record IsLeft (old new : Engine) : Type 0 where
-  pub seen : (v : ℕ) → IsLive new.world v → look new.world v ≡ look old.world v
-  pub stay : (v : ℕ) → IsLive new.world v → is_fresh old v ≡ true → is_fresh new v ≡ true
 
 pub left_refl : (e : Engine) → IsLeft e e
 left_refl e = record { seen = λ v live. refl; stay = λ v live is. is }

@@ -72,8 +72,9 @@ root_read laws e ids i v sound is here parent =
     by_pair (k, root ty ds es) same looks = ap (read_steps e) same
     by_pair (k, view p x) same looks = let none : None ≡ Some p = parent ∙ looks.0 in absurd (cc)
 
--- what isn't so of either isn't so of both
-pub not_either : (a b : Bool) → a ≡ false → b ≡ false → (a || b) ≡ true → ⊥
-not_either true b first second is = (cc)
-not_either false true first second is = (cc)
-not_either false false first second is = (cc)
+-- what isn't so of any of three isn't so of one of them
+pub not_any : (a b c : Bool) → a ≡ false → b ≡ false → c ≡ false → (a || (b || c)) ≡ true → ⊥
+not_any true b c first second third is = (cc)
+not_any false true c first second third is = (cc)
+not_any false false true first second third is = (cc)
+not_any false false false first second third is = (cc)

@@ -326,10 +326,10 @@ pub begun : (m : Image) (s t : List ℕ) → m ≡ blank s → s ≡ t → m ≡
 begun m s t is same = is ∙ ap blank same
 
 -- where nothing refuses a dump, its text is that of its lines
-pub dumped_as : {T : Type 0} (seen : T → List ℕ) (s : State) (attached many : Bool) (r : Result T ScopeFault) → attached ≡ list_any is_some s.watches → attached ≡ false
+pub dumped_as : {T : Type 0} (seen : T → List ℕ) (s : State) (attached many : Bool) (r : Result T ScopeFault) → attached ≡ list_any is_some s.watches → attached ≡ false → nat_lt 0 (length s.flows) ≡ false
     → many ≡ nat_lt names_limit (names_wanted s) → many ≡ false → AnswersAs seen (text_within (dump_lines s)) r → AnswersAs seen (dumped s) r
-dumped_as seen s attached many r a free m few h =
+dumped_as seen s attached many r a free still m few h =
     let none : list_any is_some s.watches ≡ false = sym a ∙ free in
     let room : nat_lt names_limit (names_wanted s) ≡ false = sym m ∙ few in
-    let same : text_within (dump_lines s) ≡ dumped s = rw (none, room) refl in
+    let same : text_within (dump_lines s) ≡ dumped s = rw (none, still, room) refl in
     subst (λ (w : Result (List ℕ) Fault). AnswersAs seen w r) same h

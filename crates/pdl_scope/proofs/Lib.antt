@@ -1,4 +1,5 @@
 pub mod Bindings
+pub mod FlowsStay
 pub mod Growing
 pub mod Counts
 pub mod Faults
@@ -19,6 +20,14 @@ pub mod Costs
 pub mod Dearer
 pub mod Newest
 pub mod Released
+pub mod Needed
+pub mod Ended
+pub mod Begun
 pub mod Unmoved
 pub mod Foreseen
 pub mod InBlocks
+pub mod Plans
+pub mod Followers
+pub mod Planned
+pub mod PlannedFlows
+pub mod Flowed

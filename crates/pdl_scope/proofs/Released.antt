@@ -10,8 +10,9 @@ use Rattle.pdl_world.specs.Sound.{IsLive, IsSound, NumbersBelow}
 use Rattle.pdl_world.specs.Swept.{Has, is_listed, kept_onto, parents, sweep}
 use Rattle.pdl_world.specs.World.{World, ArrayDef, Look, dims_in, look, look_of_root, root, view}
 use Rattle.pdl_engine.specs.Held.{gone_from, held_among, left_from, one_less_at, written_back, IsReleased}
-use Rattle.pdl_engine.specs.State.{State as Engine, waiting, waiting_at, waiting_size}
-use Rattle.pdl_scope.proofs.Bounds.{IsLeft}
+use Rattle.pdl_engine.specs.State.{State as Engine, IsLazy, waiting, waiting_at, waiting_size}
+use Rattle.pdl_scope.specs.LetGo.{gone_among, HasLetGo, HasNoMore, StillWaits}
+use Rattle.pdl_scope.proofs.Bounds as bounds
 use Rattle.pdl_scope.proofs.Dearer.{past_look}
 
 has_below : (w : World) (n k : ℕ) (d : ArrayDef) → NumbersBelow n w → Has w k d → k < n
@@ -30,14 +31,6 @@ root_seen ((k, e) ∷ w) r d ty ds es s (inr i) is =
     let low : r < k = has_below w k r d s.0 i in
     past_look k e w r (λ q. absurd (omega (arith, low, q))) ∙ root_seen w r d ty ds es s.2 i is
 
--- how much waits in views that go from the new world, in the families of those of its roots that are
--- there in another one
-abbrev gone_among : Engine → (new alive part : World) → ℕ
-gone_among s new alive [] = 0
-gone_among s new alive ((k, root ty ds es) ∷ w) =
-    (if is_some (look alive k) then waiting_size s (gone_from new (waiting_at s.pending k)) else 0) + gone_among s new alive w
-gone_among s new alive ((k, view p t) ∷ w) = gone_among s new alive w
-
 -- no root is there but in the part
 all_among : (s : Engine) (new alive part : World) → ((k : ℕ) (ty : Ty) (ds : List ℕ) (es : List ℤ) → Has part k (root ty ds es) → is_some (look alive k) ≡ true)
     → written_back s new part ≡ gone_among s new alive part
@@ -50,9 +43,6 @@ all_among s new alive ((k, root ty ds es) ∷ w) there =
 all_among s new alive ((k, view p t) ∷ w) there = all_among s new alive w (λ j x cs us h. there j x cs us (inr h))
 
 -- a part of a world has no more
-abbrev pub HasNoMore : (new old : World) → Type 0
-HasNoMore new old = (s : Engine) (n alive : World) → gone_among s n alive new ≤ gone_among s n alive old
-
 more_among : (s : Engine) (n alive : World) (k : ℕ) (d : ArrayDef) (u w : World) → gone_among s n alive u ≤ gone_among s n alive w → gone_among s n alive ((k, d) ∷ u) ≤ gone_among s n alive ((k, d) ∷ w)
 more_among s n alive k (root ty ds es) u w h = omega arith
 more_among s n alive k (view p t) u w h = h
@@ -79,11 +69,6 @@ some_live (Some l) live = refl
 live_some : (o : Option Look) → is_some o ≡ true → IsSomeAnd o (λ l. Unit {0})
 live_some None h = absurd (cc)
 live_some (Some l) h = tt
-
--- What waits while arrays are let go, one after another.
-pub record StillWaits (old new : Engine) : Type 0 where
-  pub waits : (v : ℕ) → IsLive new.world v → waiting new v ≡ left_from new.world (waiting old v)
-  pub fewer : HasNoMore new.world old.world
 
 pub waits_refl : (e : Engine) → ((v b : ℕ) → IsLive e.world v → waiting e v ≡ Some b → IsLive e.world b) → StillWaits e e
 waits_refl e live = record {
@@ -184,3 +169,24 @@ moved_more e t n u before now after sound later_sound seen later h r so_far coun
     let part : gone_among t n.world n.world n.world ≤ gone_among t n.world n.world e.world = (waits_more e t n u later h r).fewer t n.world n.world in
     let on : written_back e t.world e.world + gone_among t n.world n.world e.world ≤ written_back e n.world e.world = moved_on e t n sound seen later h e.world (λ k d has. has) in
     omega (arith, so_far, counted, all, part, on)
+
+-- nothing was let go yet
+pub let_go_refl : (e : Engine) (steps : ℕ) → IsLazy e → HasLetGo e e steps steps
+let_go_refl e steps lazy = record {
+  left = bounds.left_refl e;
+  waits = waits_refl e (λ v b live is. (lazy.waits v b live is).live);
+  counted = λ keeps. refl;
+  written = omega arith;
+}
+
+-- one more is let go
+pub let_go_more : bounds.Laws → (e t n : Engine) (u before now after : ℕ) → IsSound e.world → IsSound t.world → IsSound n.world → IsLazy t → IsReleased t u n → after ≡ now + written_back t n.world n.world
+    → HasLetGo e t before now → HasLetGo e n before after
+let_go_more laws e t n u before now after first sound later lazy r counted h =
+    let seen : AreSeen n.world t.world = λ v live. bounds.released_seen laws t n u v sound r live in
+    record {
+      left = bounds.left_more laws e t n u sound h.left r;
+      waits = waits_more e t n u seen h.waits r;
+      counted = bounds.unmoved laws e t n u before now after sound lazy h.left r h.counted counted;
+      written = moved_more e t n u before now after first later h.left.seen seen h.waits r h.written counted;
+    }

@@ -11,6 +11,7 @@ use Rattle.pdl_machine.specs.declared.fault.Fault.TheVariants.{TooManyNames}
 use Rattle.pdl_world.specs.World.{root}
 use Rattle.pdl_machine.specs.Arrays.{with_new}
 use Rattle.pdl_machine.specs.Names.{Named, Names, found, with_name, is_full_for, entered, bind, names_limit}
+use Rattle.pdl_machine.specs.Flows.{Flows}
 use Rattle.pdl_machine.specs.Outcome.{new_root}
 use Rattle.pdl_machine.specs.State.{State}
 use Rattle.pdl_machine.specs.Watches.{Watches}
@@ -189,6 +190,7 @@ pub record IsNext (s mid : State) (x : List ℕ) (m : Made) (id : ℕ) : Type 0 
   pub made : new_root s.arrays m ≡ Ok (mid.arrays, id)
   pub named : mid.names ≡ s.names
   pub watched : mid.watches ≡ s.watches
+  pub flowing : mid.flows ≡ s.flows
   pub free : is_full_for names_limit s.names.arrays x ≡ false
 
 pub binds : (s mid : State) (x : List ℕ) (m : Made) (id : ℕ) → IsNext s mid x m id → bind_value mid x (mid.arrays, id) ≡ Ok (with_bound mid x id, [])
@@ -198,8 +200,8 @@ binds s mid x m id next =
 
 value_is : (s mid : State) (x : List ℕ) (m : Made) (id : ℕ) → IsNext s mid x m id → bound s x (new_root s.arrays m) ≡ Ok (with_bound mid x id, [])
 value_is s mid x m id next =
-    let B : Names → Watches → Stepped = λ names ws. and_then (bind names x id) (λ after. Ok (record { names = after; arrays = mid.arrays; watches = ws }, [])) in
-    ap (bound s x) next.made ∙ ap (λ names. B names s.watches) (sym next.named) ∙ ap (B mid.names) (sym next.watched) ∙ binds s mid x m id next
+    let B : Names → Watches → Flows → Stepped = λ names ws fs. and_then (bind names x id) (λ after. Ok (record { names = after; arrays = mid.arrays; watches = ws; flows = fs }, [])) in
+    ap (bound s x) next.made ∙ ap (λ names. B names s.watches s.flows) (sym next.named) ∙ ap (λ ws. B mid.names ws s.flows) (sym next.watched) ∙ ap (B mid.names mid.watches) (sym next.flowing) ∙ binds s mid x m id next
 
 -- the state is that with the name
 pub bound_so : (s mid new : State) (x : List ℕ) (m : Made) (id : ℕ) → IsNext s mid x m id → Prints (bind_value mid x (mid.arrays, id)) new [] [] → new ≡ with_bound mid x id
@@ -232,12 +234,13 @@ abbrev pub named_too : State → Named ℕ → State
 named_too s more = record s { names = record s.names { arrays = with_names s.names.arrays more } }
 
 -- the next array came to a state whose names are bound later
-pub named_next : (s mid : State) (more : Named ℕ) (x : List ℕ) (m : Made) (id : ℕ) (rest : List (List ℕ)) → new_root s.arrays m ≡ Ok (mid.arrays, id) → mid.names ≡ s.names → mid.watches ≡ s.watches
+pub named_next : (s mid : State) (more : Named ℕ) (x : List ℕ) (m : Made) (id : ℕ) (rest : List (List ℕ)) → new_root s.arrays m ≡ Ok (mid.arrays, id) → mid.names ≡ s.names → mid.watches ≡ s.watches → mid.flows ≡ s.flows
     → length (with_names s.names.arrays more) + new_among (with_names s.names.arrays more) (x ∷ rest) ≤ names_limit → IsNext (named_too s more) (named_too mid more) x m id
-named_next s mid more x m id rest made named watched room = record {
+named_next s mid more x m id rest made named watched flowing room = record {
   made = made;
   named = ap (λ (n : Names). record n { arrays = with_names n.arrays more }) named;
   watched = watched;
+  flowing = flowing;
   free = fits_first (with_names s.names.arrays more) x id rest room;
 }
 

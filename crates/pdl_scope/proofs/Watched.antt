@@ -15,12 +15,13 @@ use Rattle.pdl_engine.specs.Held.{AllHaveHolds, count_at, one_more_at, holders}
 use Rattle.pdl_engine.specs.State.{State as Engine}
 use Rattle.pdl_watch.specs.declared.notice.Notice.{Notice}
 use Rattle.pdl_watch.specs.Slots.{lists_of}
+use Rattle.pdl_machine.specs.Flows.{Flows}
 use Rattle.pdl_machine.specs.Laws.{TrimmingAttachesTheSame}
 use Rattle.pdl_machine.specs.Names.{Names}
 use Rattle.pdl_machine.specs.State.{AreLive}
 use Rattle.pdl_machine.specs.Watches.{Watches, watch_of, attached, padded, attach, entry_onto, trimmed, detach, notices, slot_notices}
 use Rattle.pdl_scope.specs.Scope.{state_in, slots_limit, times, IsHeld}
-use Rattle.pdl_scope.proofs.Held.{held_by, numbers, times_more, both_hold, held_by_both, all_live, some_live}
+use Rattle.pdl_scope.proofs.Held.{held_by, held_of, numbers, times_all, times_more, both_hold, held_by_both, all_live, some_live}
 
 abbrev one_if : Bool → ℕ
 one_if b = if b then 1 else 0
@@ -125,33 +126,34 @@ attached_within (w ∷ ws) zero some = omega arith
 attached_within (w ∷ ws) (suc k) some = let rest = attached_within ws k some in omega arith
 
 -- other watches, and others that leave, which hold what was held
-held_moved : MoreKeepAll → (names : Names) (ws after : Watches) (e : Engine) (hs : List (ℕ × ℕ)) (leaving left : List ℕ) → IsHeld (state_in names ws e) e.holds leaving → length after ≤ slots_limit
-    → ((u : ℕ) → count_at hs u ≡ times (held_by names after) u + times left u) → ((u : ℕ) → count_at e.holds u ≤ count_at hs u) → ((u : ℕ) → 0 < times (held_by names after) u → IsLive e.world u)
-    → IsHeld (state_in names after e) hs left
-held_moved keeping names ws after e hs leaving left h few counts least live = record {
-  whole = record { sound = h.whole.sound; below = h.whole.below; live = all_live e.world (held_by names after) live };
+held_moved : MoreKeepAll → (names : Names) (ws after : Watches) (fs : Flows) (e : Engine) (hs : List (ℕ × ℕ)) (leaving left : List ℕ) → IsHeld (state_in names ws fs e) e.holds leaving → length after ≤ slots_limit
+    → ((u : ℕ) → count_at hs u ≡ times (held_by names after fs) u + times left u) → ((u : ℕ) → count_at e.holds u ≤ count_at hs u) → ((u : ℕ) → 0 < times (held_of names after) u → IsLive e.world u)
+    → IsHeld (state_in names after fs e) hs left
+held_moved keeping names ws after fs e hs leaving left h few counts least live = record {
+  whole = record { sound = h.whole.sound; below = h.whole.below; live = all_live e.world (held_of names after) live; flows = h.whole.flows };
   few = h.few;
   slots = few;
+  reads = h.reads;
   counts = counts;
-  reached = keeping e.world (held_by names ws ++ leaving) (held_by names after ++ left)
-      (λ u t. both_hold (held_by names after) left u (let some = held_by_both (held_by names ws) leaving u t in let b = h.counts u in let c = counts u in let l = least u in omega arith)) h.reached;
+  reached = keeping e.world (held_by names ws fs ++ leaving) (held_by names after fs ++ left)
+      (λ u t. both_hold (held_by names after fs) left u (let some = held_by_both (held_by names ws fs) leaving u t in let b = h.counts u in let c = counts u in let l = least u in omega arith)) h.reached;
 }
 
 -- a slot is attached to an array, which is held once more
-pub held_attached : OneMoreCounts → MoreKeepAll → (names : Names) (ws : Watches) (e : Engine) (k v : ℕ) (leaving : List ℕ) → AllHaveHolds e → IsHeld (state_in names ws e) e.holds leaving → IsLive e.world v
-    → k < slots_limit → watch_of ws k ≡ None → IsHeld (state_in names (attach ws k v) e) (one_more_at e.holds v) leaving
-held_attached one_more keeping names ws e k v leaving have h live small free =
-    held_moved keeping names ws (attach ws k v) e (one_more_at e.holds v) leaving leaving h (attached_long ws k v small h.slots)
-    (λ u. (let c = one_more e.holds v u known in let b = h.counts u in let m = more u in omega arith))
+pub held_attached : OneMoreCounts → MoreKeepAll → (names : Names) (ws : Watches) (fs : Flows) (e : Engine) (k v : ℕ) (leaving : List ℕ) → AllHaveHolds e → IsHeld (state_in names ws fs e) e.holds leaving → IsLive e.world v
+    → k < slots_limit → watch_of ws k ≡ None → IsHeld (state_in names (attach ws k v) fs e) (one_more_at e.holds v) leaving
+held_attached one_more keeping names ws fs e k v leaving have h live small free =
+    held_moved keeping names ws (attach ws k v) fs e (one_more_at e.holds v) leaving leaving h (attached_long ws k v small h.slots)
+    (λ u. (let c = one_more e.holds v u known in let b = h.counts u in let m = more u in let x = times_all names ws fs u in let y = times_all names (attach ws k v) fs u in omega arith))
     (λ u. (let c = one_more e.holds v u known in omega arith))
     (λ u some. by_test (v == u)
     (λ is. (let P : ℕ → Type 0 = IsLive e.world in subst P (eqb-true v u is) live))
-    (λ other. live_counted e.world (held_by names ws) u h.whole.live (let m = rw other at (more u) in omega arith)))
+    (λ other. live_counted e.world (held_of names ws) u h.whole.live (let m = rw other at (more u) in omega arith)))
   where
     known : is_listed (holders e.holds) v ≡ true
     known = have v ∙ some_live e.world v live
 
-    more : (u : ℕ) → times (held_by names (attach ws k v)) u ≡ times (held_by names ws) u + one_if (v == u)
+    more : (u : ℕ) → times (held_of names (attach ws k v)) u ≡ times (held_of names ws) u + one_if (v == u)
     more u =
         let t = times_attached ws k v u free in
         let a = times_more (numbers names.arrays) (attached (attach ws k v)) u in
@@ -159,15 +161,15 @@ held_attached one_more keeping names ws e k v leaving have h live small free =
         omega (arith, t, a, b)
 
 -- a slot isn't attached any more, and its array leaves
-pub held_detached : TrimmingAttachesTheSame → MoreKeepAll → (names : Names) (ws : Watches) (e : Engine) (k : ℕ) (leaving : List ℕ) → IsHeld (state_in names ws e) e.holds leaving → k < length ws
-    → IsHeld (state_in names (detach ws k) e) e.holds (leaving ++ option_to_list (watch_of ws k))
-held_detached same keeping names ws e k leaving h lt =
-    held_moved keeping names ws (detach ws k) e e.holds leaving (leaving ++ option_to_list (watch_of ws k)) h (let l = detached_short ws k in let few : length ws ≤ slots_limit = h.slots in omega arith)
-    (λ u. (let b = h.counts u in let f = fewer u in let m = times_more leaving (option_to_list (watch_of ws k)) u in omega arith))
+pub held_detached : TrimmingAttachesTheSame → MoreKeepAll → (names : Names) (ws : Watches) (fs : Flows) (e : Engine) (k : ℕ) (leaving : List ℕ) → IsHeld (state_in names ws fs e) e.holds leaving → k < length ws
+    → IsHeld (state_in names (detach ws k) fs e) e.holds (leaving ++ option_to_list (watch_of ws k))
+held_detached same keeping names ws fs e k leaving h lt =
+    held_moved keeping names ws (detach ws k) fs e e.holds leaving (leaving ++ option_to_list (watch_of ws k)) h (let l = detached_short ws k in let few : length ws ≤ slots_limit = h.slots in omega arith)
+    (λ u. (let b = h.counts u in let f = fewer u in let m = times_more leaving (option_to_list (watch_of ws k)) u in let x = times_all names ws fs u in let y = times_all names (detach ws k) fs u in omega arith))
     (λ u. omega arith)
-    (λ u some. live_counted e.world (held_by names ws) u h.whole.live (let f = fewer u in omega arith))
+    (λ u some. live_counted e.world (held_of names ws) u h.whole.live (let f = fewer u in omega arith))
   where
-    fewer : (u : ℕ) → times (held_by names (detach ws k)) u + times (option_to_list (watch_of ws k)) u ≡ times (held_by names ws) u
+    fewer : (u : ℕ) → times (held_of names (detach ws k)) u + times (option_to_list (watch_of ws k)) u ≡ times (held_of names ws) u
     fewer u =
         let t = times_detached same ws k u lt in
         let a = times_more (numbers names.arrays) (attached (detach ws k)) u in

@@ -76,6 +76,8 @@ abbrev pub dump_steps : Engine → ℕ × ArrayDef → ℕ
 dump_steps e (k, root ty ds es) = read_steps e k
 dump_steps e (k, view p t) = 0
 
--- whether a dump is refused before anything is read: a slot is attached, or it binds too many names
+-- whether a dump is refused before anything is read: a slot is attached, or there is a flow, or it
+-- binds too many names
 abbrev pub is_refused_unread : State → Bool
-is_refused_unread s = list_any is_some s.watches || nat_lt names_limit (names_wanted s)
+is_refused_unread s =
+    list_any is_some s.watches || (nat_lt 0 (length s.flows) || nat_lt names_limit (names_wanted s))

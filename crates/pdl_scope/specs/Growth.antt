@@ -3,13 +3,21 @@
 use Rattle.std.proofs.Common.{◌≡◌, [], ◌++◌, append_assoc, refl, sym, ap, subst, ◌∙◌}
 use Rattle.pdl_world.specs.Sound.{IsLive}
 use Rattle.pdl_machine.specs.Arrays.{Arrays}
+use Rattle.pdl_machine.specs.Flows.{Flows}
 use Rattle.pdl_machine.specs.Names.{Names}
+use Rattle.pdl_machine.specs.State.{State}
 use Rattle.pdl_machine.specs.Watches.{Watches}
 use Rattle.pdl_scope.specs.Scope.{Scope, machine, OnlyReads, Grows}
 
 -- nothing was read
 pub reads_refl : (s : Scope) → OnlyReads s s
-reads_refl s = record { names = refl; arrays = refl; watches = refl; stay = λ v is. is }
+reads_refl s = record {
+  names = refl;
+  arrays = refl;
+  watches = refl;
+  flows = refl;
+  stay = λ v is. is;
+}
 
 -- arrays were read, and then others
 pub reads_trans : (a b c : Scope) → OnlyReads a b → OnlyReads b c → OnlyReads a c
@@ -17,15 +25,22 @@ reads_trans a b c g h = record {
   names = h.names ∙ g.names;
   arrays = h.arrays ∙ g.arrays;
   watches = h.watches ∙ g.watches;
+  flows = h.flows ∙ g.flows;
   stay = λ v is. h.stay v (g.stay v is);
 }
+
+-- a state by its parts
+abbrev state_of : Names → Arrays → Watches → Flows → State
+state_of names arrays watches flows =
+    record { names = names; arrays = arrays; watches = watches; flows = flows }
 
 -- the machine sees nothing of it
 pub unread : (a b : Scope) → OnlyReads a b → machine b ≡ machine a
 unread a b g =
-    ap (λ (n : Names). record { names = n; arrays = b.arrays; watches = b.watches }) g.names
-    ∙ ap (λ (r : Arrays). record { names = a.names; arrays = r; watches = b.watches }) g.arrays
-    ∙ ap (λ (ws : Watches). record { names = a.names; arrays = a.arrays; watches = ws }) g.watches
+    ap (λ (n : Names). state_of n b.arrays b.watches b.flows) g.names
+    ∙ ap (λ (r : Arrays). state_of a.names r b.watches b.flows) g.arrays
+    ∙ ap (λ (ws : Watches). state_of a.names a.arrays ws b.flows) g.watches
+    ∙ ap (λ (fs : Flows). state_of a.names a.arrays a.watches fs) g.flows
 
 -- and nothing came
 pub reads_grow : (a b : Scope) → OnlyReads a b → Grows a b
@@ -33,6 +48,7 @@ reads_grow a b g = record {
   names = g.names;
   arrays = record { more = []; is = ap (λ (r : Arrays). r.world) g.arrays };
   watches = g.watches;
+  flows = g.flows;
   still = λ v live. (let P : Arrays → Type 0 = λ r. IsLive r.world v in subst P (sym g.arrays) live);
   stay = g.stay;
 }
@@ -43,6 +59,7 @@ grows_refl s = record {
   names = refl;
   arrays = record { more = []; is = refl };
   watches = refl;
+  flows = refl;
   still = λ v live. live;
   stay = λ v is. is;
 }
@@ -57,6 +74,7 @@ grows_trans a b c g h = record {
         ∙ sym (append_assoc h.arrays.more g.arrays.more a.arrays.world);
   };
   watches = h.watches ∙ g.watches;
+  flows = h.flows ∙ g.flows;
   still = λ v live. h.still v (g.still v live);
   stay = λ v is. h.stay v (g.stay v is);
 }

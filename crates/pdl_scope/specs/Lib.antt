@@ -2,9 +2,13 @@ pub mod Scope
 pub mod Dumping
 pub mod Answers
 pub mod Faults
+pub mod Coding
 pub mod Holding
+pub mod LetGo
+pub mod Flowing
 pub mod Room
 pub mod Growth
 pub mod Assigning
 pub mod Costs
 pub mod Limits
+pub mod Plans

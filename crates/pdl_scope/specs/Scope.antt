@@ -10,9 +10,10 @@ use Rattle.pdl_machine.specs.Names.{KernelTexts, Named, Names, names_limit}
 use Rattle.pdl_sig.specs.declared.ArgShape.{ArgShape}
 use Rattle.pdl_machine.specs.Arrays.{Arrays, array_in}
 use Rattle.pdl_sig.specs.Given.{shape_of}
+use Rattle.pdl_machine.specs.Flows.{Flows, all_read}
 use Rattle.pdl_machine.specs.State.{State, held, IsWhole}
 use Rattle.pdl_machine.specs.Watches.{Watches}
-use Rattle.pdl_scope.specs.declared.limits.TheConstants.{MOST_SLOTS}
+use Rattle.pdl_scope.specs.declared.limits.TheConstants.{MOST_READS, MOST_SLOTS}
 use Rattle.pdl_machine.specs.Laws.{AreGrown}
 use Rattle.pdl_machine.specs.Outcome.{Seen, array}
 
@@ -31,12 +32,13 @@ pub record Lent : Type 0 where
   pub pending : List (ℕ × ℕ)
   pub holds : List (ℕ × ℕ)
 
--- What a scope is seen as: names, arrays, by slots the arrays that watchers are attached to, and
--- what its engine can lend.
+-- What a scope is seen as: names, arrays, by slots the arrays that watchers are attached to, flows,
+-- and what its engine can lend.
 pub record Scope : Type 0 where
   pub names : Names
   pub arrays : Arrays
   pub watches : Watches
+  pub flows : Flows
   pub lent : Lent
 
 -- the engine of a scope
@@ -51,20 +53,27 @@ engine_of s = record {
 
 -- the machine's state
 abbrev pub machine : Scope → State
-machine s = record { names = s.names; arrays = s.arrays; watches = s.watches }
+machine s =
+    record { names = s.names; arrays = s.arrays; watches = s.watches; flows = s.flows }
 
 -- what the engine can lend, and how often it holds
 abbrev pub lent_by : Engine → Lent
 lent_by e = record { fresh = e.fresh; pending = e.pending; holds = e.holds }
 
--- names and watches with an engine
-abbrev pub scope_in : Names → Watches → Engine → Scope
-scope_in names watches e =
-    record { names = names; arrays = arrays_of e; watches = watches; lent = lent_by e }
+-- names, watches and flows with an engine
+abbrev pub scope_in : Names → Watches → Flows → Engine → Scope
+scope_in names watches flows e = record {
+  names = names;
+  arrays = arrays_of e;
+  watches = watches;
+  flows = flows;
+  lent = lent_by e;
+}
 
--- names and watches with the engine's arrays as a state of the machine
-abbrev pub state_in : Names → Watches → Engine → State
-state_in names watches e = record { names = names; arrays = arrays_of e; watches = watches }
+-- names, watches and flows with the engine's arrays as a state of the machine
+abbrev pub state_in : Names → Watches → Flows → Engine → State
+state_in names watches flows e =
+    record { names = names; arrays = arrays_of e; watches = watches; flows = flows }
 
 -- what is seen of an engine's array
 abbrev pub made_in : Engine → ℕ → Made
@@ -82,19 +91,22 @@ arrays_seen a vs = map (λ v. array (array_in a v)) vs
 abbrev pub array_of : Ty → List ℕ → List ℤ → Made
 array_of ty ds es = record { ty = ty; dims = ds; elems = es }
 
--- Names, arrays and watches are the same, and each array that could be lent can be lent still.
+-- Names, arrays, watches and flows are the same, and each array that could be lent can be lent
+-- still.
 pub record OnlyReads (old new : Scope) : Type 0 where
   pub names : new.names ≡ old.names
   pub arrays : new.arrays ≡ old.arrays
   pub watches : new.watches ≡ old.watches
+  pub flows : new.flows ≡ old.flows
   pub stay : StayFresh (engine_of old) (engine_of new)
 
--- Names and watches are the same, nothing but new arrays came, each array that was there is there,
--- and each that could be lent can be lent still.
+-- Names, watches and flows are the same, nothing but new arrays came, each array that was there is
+-- there, and each that could be lent can be lent still.
 pub record Grows (old new : Scope) : Type 0 where
   pub names : new.names ≡ old.names
   pub arrays : AreGrown old.arrays new.arrays
   pub watches : new.watches ≡ old.watches
+  pub flows : new.flows ≡ old.flows
   pub still : (v : ℕ) → IsLive old.arrays.world v → IsLive new.arrays.world v
   pub stay : StayFresh (engine_of old) (engine_of new)
 
@@ -107,13 +119,22 @@ times (u ∷ us) v = (if u == v then 1 else 0) + times us v
 abbrev pub slots_limit : ℕ
 slots_limit = MOST_SLOTS
 
--- The state is whole; at most so many names are bound, and at most so many slots are there; each
--- array is held once for each name of it, once for each slot that is attached to it, and once for
--- each place in the list of those that leave when the statement ends; and nothing is there but what
--- these reach.
+-- the formulas of all flows name arrays at most so often
+abbrev pub reads_limit : ℕ
+reads_limit = MOST_READS
+
+-- the arrays that names, attached slots and formulas hold, as often as these name them
+abbrev pub all_held : State → List ℕ
+all_held s = held s ++ all_read s.flows
+
+-- The state is whole; at most so many names are bound, at most so many slots are there, and
+-- formulas name arrays at most so often; each array is held once for each name of it, once for each
+-- slot that is attached to it, once for each place in a formula, and once for each place in the list
+-- of those that leave when the statement ends; and nothing is there but what these reach.
 pub record IsHeld (s : State) (hs : List (ℕ × ℕ)) (leaving : List ℕ) : Type 0 where
   pub whole : IsWhole s
   pub few : length s.names.arrays ≤ names_limit
   pub slots : length s.watches ≤ slots_limit
-  pub counts : (v : ℕ) → count_at hs v ≡ times (held s) v + times leaving v
-  pub reached : KeepsAll s.arrays.world (held s ++ leaving)
+  pub reads : length (all_read s.flows) ≤ reads_limit
+  pub counts : (v : ℕ) → count_at hs v ≡ times (all_held s) v + times leaving v
+  pub reached : KeepsAll s.arrays.world (all_held s ++ leaving)

@@ -1,84 +1,132 @@
 //! Assignments to the arrays of a scope.
-ghost use Rattle.std.specs.Prelude.{◌≡◌, ◌+◌, ◌≤◌, ◌&&◌, true, [], Ok, IfOk, IfSome, OnOk, is_some, sum_by};
+ghost use Rattle.std.specs.Prelude.{◌≡◌, ◌+◌, ◌≤◌, ◌&&◌, true, false, [], ◌∷◌, IfOk, IfSome, OnOk, is_some, length, sum_by};
 ghost use Rattle.pdl_shape.specs.Shape.{size_of};
 ghost use Rattle.pdl_buf.specs.Made.{IsMade};
+ghost use Rattle.pdl_world.specs.Paths.{root_of};
 ghost use Rattle.pdl_world.specs.Sound.{IsLive};
 ghost use Rattle.pdl_world.specs.World.{dims_in, ty_in};
 ghost use Rattle.pdl_engine.specs.Reading.{IsWarm, KeepsViews, read_steps};
 ghost use Rattle.pdl_engine.specs.State.{is_fresh, SameArrays, StayFresh};
 ghost use Rattle.pdl_machine.specs.Arrays.{array_in};
+ghost use Rattle.pdl_machine.specs.Flows.{affected, is_flow};
+ghost use Rattle.pdl_machine.specs.Following.{AreFlows};
 ghost use Rattle.pdl_machine.specs.Operators.{values_for};
-ghost use Rattle.pdl_machine.specs.Step.{assigned};
-ghost use Rattle.pdl_machine.specs.State.{with_arrays};
-ghost use Rattle.pdl_machine.specs.Then.{and_then};
+ghost use Rattle.pdl_machine.specs.State.{AreLive};
 ghost use Rattle.pdl_machine.specs.Watches.{attached, notices};
 ghost use Rattle.pdl_watch.specs.Slots.{lists_of};
-ghost use Rattle.pdl_scope.specs.Answers.{AnswersAs, Runs};
-ghost use Rattle.pdl_scope.specs.Assigning.{Assigns, GoesInBlocks};
+ghost use Rattle.pdl_scope.specs.Answers.{AnswersAs, IfScript};
+ghost use Rattle.pdl_scope.specs.Assigning.{Assigns, CanAssign, GoesInBlocks, IsAlone, followers};
 ghost use Rattle.pdl_scope.specs.Costs.{ReadsNoDearer};
-ghost use Rattle.pdl_scope.specs.Scope.{engine_of, machine, arrays_of, OnlyReads};
+ghost use Rattle.pdl_scope.specs.Plans.{IsPlan};
+ghost use Rattle.pdl_scope.specs.Scope.{engine_of, arrays_of, OnlyReads};
 
 use crate::fault::ScopeFault;
+use crate::flows::KeptFlow;
+use crate::following::{Change, assign_all, is_followed, plan_flows};
 use crate::reading::ready_two;
 use crate::scope::Scope;
-use crate::watching::foreseen;
+use crate::watching::{foreseen, lookups};
 use pdl_assign::{BLOCK, assign_blocks, can_block};
 use pdl_buf::Steps;
 use pdl_engine::{ArrayId, Engine};
 use pdl_lexemes::AssignOp;
+use pdl_machine::flow_laws;
 use pdl_ops::values_for;
 use pdl_shape::elements_of;
 use pdl_watch::Notice;
-use pdl_world::{assignment_laws, keeping_laws};
+use pdl_world::{assignment_laws, keeping_laws, part_laws};
 use std::alloc::{AllocError, Global};
 use std::sync::ledger::Ledger;
 
 impl Scope {
-    /// Assigns an array to another one by a sign, and answers by slots what watchers are to be
-    /// told: a notice of this number for each position at which the array of the slot changed. What
-    /// is written are the values by the elements at the start, whether they are found all at once
-    /// or block by block, and writing them takes no memory. It takes at most a step for each
+    /// Assigns an array to another one by a sign, after which flows follow, and answers by slots what
+    /// watchers are to be told: a notice of this number for each position at which the array of the slot
+    /// changed. What is written are the values by the elements at the start, whether they are found
+    /// all at once or block by block; and all values and notices are found before one value is
+    /// written, which takes no memory. Each flow that reads, directly or through flows, an array of
+    /// the target's root takes at most one step of `runs`, and none where the script is refused. Where
+    /// none does it takes at most a step for each
     /// position, beside those that it takes to read both arrays and each array that a slot is
-    /// attached to; and what was assigned to can be lent afterwards, unless its base has repeats.
-    pub fn assign<L: Ledger>(
+    /// attached to. What was assigned to can be lent afterwards, unless its base has repeats.
+    pub fn assign<L: Ledger, M: Ledger>(
         &mut self,
         sign: AssignOp,
         target: ArrayId,
         value: ArrayId,
         number: u64,
         steps: &mut Steps<L>,
+        runs: &mut Steps<M>,
     ) -> Result<Vec<Vec<Notice>>, ScopeFault>
         requires target { IsLive self.old.arrays.world target }
         requires value { IsLive self.old.arrays.world value }
-        ensures runs { let values = assigned sign self.old.arrays target value in
-            let wanted = and_then values (λ a. Ok (with_arrays (machine self.old) a, [])) in
-            Runs wanted self.old self.new [] [] result }
+        requires unflowed { let root = root_of self.old.arrays.world target in
+            is_flow self.old.flows root ≡ false }
+        ensures runs { Assigns sign target value self.old self.new result }
         ensures told { let before = self.old.arrays.world in
             let wanted = notices number before self.new.arrays.world self.old.watches in
             IfOk result (λ all. lists_of all.items ≡ wanted) }
+        ensures affected { runs.new ≤ runs.old + length (followers self.old target) }
+        ensures unrun { IfScript result (runs.new ≡ runs.old) }
         ensures warm { OnOk result (IsWarm (engine_of self.new) target) }
         ensures views { KeepsViews self.new.arrays.world self.old.arrays.world }
-        ensures at_once { let e = engine_of self.old in is_fresh e target ≡ true
-            → is_fresh e value ≡ true → attached self.old.watches ≡ []
+        ensures at_once { let e = engine_of self.old in followers self.old target ≡ []
+            → is_fresh e target ≡ true → is_fresh e value ≡ true → attached self.old.watches ≡ []
             → steps.new ≤ steps.old + size_of (dims_in e.world target) }
-        ensures counted { let e = engine_of self.old in
+        ensures counted { let e = engine_of self.old in followers self.old target ≡ [] →
             let watched = sum_by (read_steps e) (attached self.old.watches) in
             steps.new ≤ steps.old + (read_steps e target + read_steps e value) + watched
             + size_of (dims_in e.world target) }
     {
-        if self.goes_in_blocks(sign, target, value, steps)? {
-            return match self.assign_in_blocks(sign, target, value, steps) {
-                Ok(()) => Ok(Vec::new(self.alloc)),
-                Err(fault) => Err(fault),
-            };
+        if !self.is_alone(target) {
+            return self.assign_planned(sign, target, value, number, steps, runs);
         }
-        self.assign_listed(sign, target, value, number, steps)
+        match self.assign_alone(sign, target, value, steps) {
+            Ok(()) => Ok(Vec::new(self.alloc)),
+            Err(fault) => Err(fault),
+        }
+    }
+
+    /// Whether nothing is to be found of an assignment to this array but its values: no slot is
+    /// attached, and no flow reads an array of its root.
+    fn is_alone(&self, target: ArrayId) -> bool
+        requires { IsLive self.now.arrays.world target }
+        ensures alone { result ≡ true → IsAlone self.now target }
+        ensures more { result ≡ false → IsAlone self.now target → ⊥ }
+    {
+        self.watches.is_empty()
+            && (self.flows.is_empty()
+                || !is_followed(&self.engine, &self.flows, self.engine.root(target)))
+    }
+
+    /// What `assign` does where no slot is attached and no flow follows.
+    fn assign_alone<L: Ledger>(
+        &mut self,
+        sign: AssignOp,
+        target: ArrayId,
+        value: ArrayId,
+        steps: &mut Steps<L>,
+    ) -> Result<(), ScopeFault>
+        requires target { IsLive self.old.arrays.world target }
+        requires value { IsLive self.old.arrays.world value }
+        requires unflowed { let root = root_of self.old.arrays.world target in
+            is_flow self.old.flows root ≡ false }
+        requires alone { IsAlone self.old target }
+        ensures runs { Assigns sign target value self.old self.new result }
+        ensures warm { OnOk result (IsWarm (engine_of self.new) target) }
+        ensures views { KeepsViews self.new.arrays.world self.old.arrays.world }
+        ensures counted { let e = engine_of self.old in
+            steps.new ≤ steps.old + (read_steps e target + read_steps e value)
+            + size_of (dims_in e.world target) }
+    {
+        if self.goes_in_blocks(sign, target, value, steps)? {
+            return self.assign_in_blocks(sign, target, value, steps);
+        }
+        self.assign_listed(sign, target, value, steps)
     }
 
     /// Whether an assignment is made block by block, without a list of its values: there are more
-    /// of them than one block has, no slot is attached, whose notices want the list, and it is
-    /// plain that no block reads what one before it wrote. To find out, both arrays are made ones
-    /// that can be lent, which the assignment wants in any case.
+    /// of them than one block has, and it is plain that no block reads what one before it wrote. To
+    /// find out, both arrays are made ones that can be lent, which the assignment wants in any case.
     fn goes_in_blocks<L: Ledger>(
         &mut self,
         sign: AssignOp,
@@ -95,19 +143,16 @@ impl Scope {
         ensures spent { let e = engine_of self.old in let f = engine_of self.new in
             OnOk result (steps.new + (read_steps f target + read_steps f value)
             ≤ steps.old + (read_steps e target + read_steps e value)) }
-        ensures costs { let e = engine_of self.old in let f = engine_of self.new in
-            let most = sum_by (read_steps e) (attached self.old.watches) in
-            sum_by (read_steps f) (attached self.new.watches) ≤ most }
     {
         let count = elements_of(self.engine.dims(target)) as usize;
-        if count <= BLOCK || !self.watches.is_empty() {
+        if count <= BLOCK {
             return Ok(false);
         }
         ready_two(&mut self.engine, target, value, steps)?;
         Ok(can_block(&self.engine, sign, target, value))
     }
 
-    /// What `assign` does, block by block. All of the right side is looked at before the first
+    /// What `assign_alone` does, block by block. All of the right side is looked at before the first
     /// write, and no memory is wanted.
     fn assign_in_blocks<L: Ledger>(
         &mut self,
@@ -118,6 +163,9 @@ impl Scope {
     ) -> Result<(), ScopeFault>
         requires target { IsLive self.old.arrays.world target }
         requires value { IsLive self.old.arrays.world value }
+        requires unflowed { let root = root_of self.old.arrays.world target in
+            is_flow self.old.flows root ≡ false }
+        requires alone { IsAlone self.old target }
         requires blocks { GoesInBlocks sign self.old target value }
         ensures runs { Assigns sign target value self.old self.new result }
         ensures warm { OnOk result (IsWarm (engine_of self.new) target) }
@@ -125,54 +173,135 @@ impl Scope {
         ensures counted { steps.new ≤ steps.old + size_of (dims_in self.old.arrays.world target) }
     {
         assignment_laws();
+        part_laws();
         keeping_laws();
+        flow_laws();
         match assign_blocks(&mut self.engine, sign, target, value, steps) {
             Ok(()) => Ok(()),
             Err(fault) => Err(ScopeFault::from(fault)),
         }
     }
 
-    /// What `assign` does, with a list of all values. They and all notices are found before one
-    /// value is written.
+    /// What `assign_alone` does, with a list of all values, which are found before one is written.
     fn assign_listed<L: Ledger>(
+        &mut self,
+        sign: AssignOp,
+        target: ArrayId,
+        value: ArrayId,
+        steps: &mut Steps<L>,
+    ) -> Result<(), ScopeFault>
+        requires target { IsLive self.old.arrays.world target }
+        requires value { IsLive self.old.arrays.world value }
+        requires unflowed { let root = root_of self.old.arrays.world target in
+            is_flow self.old.flows root ≡ false }
+        requires alone { IsAlone self.old target }
+        ensures runs { Assigns sign target value self.old self.new result }
+        ensures warm { OnOk result (IsWarm (engine_of self.new) target) }
+        ensures views { KeepsViews self.new.arrays.world self.old.arrays.world }
+        ensures counted { let e = engine_of self.old in
+            steps.new ≤ steps.old + (read_steps e target + read_steps e value)
+            + size_of (dims_in e.world target) }
+    {
+        assignment_laws();
+        part_laws();
+        keeping_laws();
+        flow_laws();
+        let values = match written(self.alloc, &mut self.engine, sign, target, value, steps) {
+            Ok(values) => values,
+            Err(fault) => return Err(fault),
+        };
+        self.engine.assign(target, &values, steps);
+        Ok(())
+    }
+
+    /// What `assign` does with a plan: the assignment, and those by which flows follow it. They and
+    /// all notices are found before one value is written.
+    fn assign_planned<L: Ledger, M: Ledger>(
         &mut self,
         sign: AssignOp,
         target: ArrayId,
         value: ArrayId,
         number: u64,
         steps: &mut Steps<L>,
+        runs: &mut Steps<M>,
     ) -> Result<Vec<Vec<Notice>>, ScopeFault>
         requires target { IsLive self.old.arrays.world target }
         requires value { IsLive self.old.arrays.world value }
+        requires unflowed { let root = root_of self.old.arrays.world target in
+            is_flow self.old.flows root ≡ false }
         ensures runs { Assigns sign target value self.old self.new result }
         ensures told { let before = self.old.arrays.world in
             let wanted = notices number before self.new.arrays.world self.old.watches in
             IfOk result (λ all. lists_of all.items ≡ wanted) }
+        ensures affected { runs.new ≤ runs.old + length (followers self.old target) }
+        ensures unrun { IfScript result (runs.new ≡ runs.old) }
         ensures warm { OnOk result (IsWarm (engine_of self.new) target) }
         ensures views { KeepsViews self.new.arrays.world self.old.arrays.world }
-        ensures counted { let e = engine_of self.old in
+        ensures counted { let e = engine_of self.old in followers self.old target ≡ [] →
             let watched = sum_by (read_steps e) (attached self.old.watches) in
             steps.new ≤ steps.old + (read_steps e target + read_steps e value) + watched
             + size_of (dims_in e.world target) }
     {
         assignment_laws();
+        part_laws();
         keeping_laws();
+        flow_laws();
         let values = match written(self.alloc, &mut self.engine, sign, target, value, steps) {
             Ok(values) => values,
             Err(fault) => return Err(fault),
         };
+        let plan = planned(
+            self.alloc,
+            &mut self.engine,
+            target,
+            values,
+            &self.watches,
+            &self.flows,
+            steps,
+            runs,
+        )?;
         let all = foreseen(
             self.alloc,
             &mut self.engine,
             number,
-            target,
-            &values,
+            &plan,
             &self.watches,
             steps,
         )?;
-        self.engine.assign(target, &values, steps);
+        assign_all(&mut self.engine, &plan, steps);
         Ok(all)
     }
+}
+
+/// The plan of an assignment of these values to an array: itself, and those by which flows follow it.
+fn planned<L: Ledger, M: Ledger>(
+    alloc: Global,
+    engine: &mut Engine,
+    target: ArrayId,
+    values: Vec<i64>,
+    watches: &[Option<ArrayId>],
+    flows: &[KeptFlow],
+    steps: &mut Steps<L>,
+    runs: &mut Steps<M>,
+) -> Result<Vec<Change>, AllocError>
+    requires can { CanAssign engine.old target values.items }
+    requires watched { AreLive engine.old.world (attached watches.now) }
+    requires flows { AreFlows (arrays_of engine.old) flows.now }
+    requires unflowed { is_flow flows.now (root_of engine.old.world target) ≡ false }
+    ensures plan { let e = engine.old in
+        IfOk result (λ cs. IsPlan e flows.now target values.items engine.new cs.items) }
+    ensures same { SameArrays engine.old engine.new }
+    ensures stay { StayFresh engine.old engine.new }
+    ensures runs { let w = engine.old.world in
+        runs.new ≤ runs.old + length (affected w flows.now (root_of w target ∷ [])) }
+    ensures alone { let w = engine.old.world in affected w flows.now (root_of w target ∷ []) ≡ []
+        → (engine.new ≡ engine.old) × (steps.new ≡ steps.old) }
+{
+    let many = lookups(engine, watches, flows, target);
+    let change = Change::new(engine, target, values, many)?;
+    let mut plan = vec![in alloc; change]?;
+    plan_flows(alloc, engine, flows, &mut plan, steps, runs)?;
+    Ok(plan)
 }
 
 /// The values that an assignment writes, if both arrays can be lent already: then each of them is

@@ -7,23 +7,24 @@ ghost use Rattle.pdl_world.specs.Sound.{IsLive};
 ghost use Rattle.pdl_world.specs.World.{dims_in};
 ghost use Rattle.pdl_nodes.specs.declared.relaid.RelayFault.TheVariants.{Breaks};
 ghost use Rattle.pdl_engine.specs.State.{StayFresh, ready_steps};
-ghost use Rattle.pdl_machine.specs.Cuts.{cut, reshaped};
+ghost use Rattle.pdl_machine.specs.Cuts.{reshaped};
 ghost use Rattle.pdl_machine.specs.State.{with_arrays};
 ghost use Rattle.pdl_machine.specs.Names.{unbind, Names};
-ghost use Rattle.pdl_machine.specs.Step.{bind_value, severing};
+ghost use Rattle.pdl_machine.specs.Step.{bind_severed, severing};
 ghost use Rattle.pdl_machine.specs.Then.{and_then};
 ghost use Rattle.pdl_scope.specs.Answers.{IfScript, Runs};
 ghost use Rattle.pdl_scope.specs.Costs.{MovesNothing};
-ghost use Rattle.pdl_scope.specs.Holding.{IsHeldBeside, StaysHeld};
+ghost use Rattle.pdl_scope.specs.Holding.{IsHeldBeside, StaysHeld, StaysHeldUnread};
 ghost use Rattle.pdl_scope.specs.Scope.{engine_of, machine};
 
 use crate::fault::ScopeFault;
+use crate::flowing::{end_flow, kept_shape, room_to_end};
 use crate::holding::{bind_one, hold_parent, note};
 use crate::scope::Scope;
-use crate::watching::is_watched;
 use pdl_buf::Steps;
 use pdl_elem::Name;
 use pdl_engine::{ArrayId, Engine, ReshapeFault};
+use pdl_flow::meaning_laws;
 use pdl_machine::Fault;
 use pdl_shape::Dims;
 use pdl_world::{cut_laws, keeping_laws, reshape_laws};
@@ -31,8 +32,9 @@ use std::alloc::AllocError;
 use std::sync::ledger::Ledger;
 
 impl Scope {
-    /// Cuts an array from its parent. The parent is kept until the statement ends. It takes at most
-    /// the steps that make the array ready, and one for each of its elements; on a root none.
+    /// Cuts an array from its parent; the flow of a root ends. The parent, or what the formula read,
+    /// is kept until the statement ends, and all room is taken before. It takes at most the steps
+    /// that make the array ready, and one for each of its elements; on a root none.
     pub fn sever<L: Ledger>(&mut self, id: ArrayId, steps: &mut Steps<L>) -> Result<(), ScopeFault>
         requires { IsLive self.old.arrays.world id }
         ensures runs { Runs (severing (machine self.old) id) self.old self.new [] [] result }
@@ -41,13 +43,17 @@ impl Scope {
         ensures spent { let e = engine_of self.old in root_of e.world id ≡ id
             → MovesNothing e (engine_of self.new) steps.old steps.new }
     {
-        self.leaving.reserve(1)?;
-        Ok(cut_apart(&mut self.engine, &mut self.leaving, id, steps)?)
+        keeping_laws();
+        let room = room_to_end(&self.flows, id);
+        self.leaving.reserve(room)?;
+        cut_apart(&mut self.engine, &mut self.leaving, id, steps)?;
+        end_flow(&mut self.flows, &mut self.leaving, id);
+        Ok(())
     }
 
     /// Cuts an array from its parent and binds a name to it, with `TooManyNames` where the name is
-    /// new and 512 are bound. All room is taken before the cut, which takes the steps that it takes
-    /// alone.
+    /// new and 512 are bound; the flow of a root ends. All room is taken before the cut, which takes
+    /// the steps that it takes alone.
     pub fn bind_severed<L: Ledger>(
         &mut self,
         name: &Name,
@@ -55,8 +61,7 @@ impl Scope {
         steps: &mut Steps<L>,
     ) -> Result<(), ScopeFault>
         requires { IsLive self.old.arrays.world id }
-        ensures runs { let arrays = cut self.old.arrays id in
-            let wanted = bind_value (machine self.old) name.now (arrays, id) in
+        ensures runs { let wanted = bind_severed (machine self.old) name.now (self.old.arrays, id) in
             Runs wanted self.old self.new [] [] result }
         ensures counted { let e = engine_of self.old in
             steps.new ≤ steps.old + (ready_steps e id + size_of (dims_in e.world id)) }
@@ -69,10 +74,13 @@ impl Scope {
             return Err(ScopeFault::Script(Fault::TooManyNames));
         }
         cut_laws();
+        keeping_laws();
         let name = name.clone()?;
         self.names.reserve(1)?;
-        self.leaving.reserve(2)?;
+        let room = room_to_end(&self.flows, id);
+        self.leaving.reserve(room + 1)?;
         cut_apart(&mut self.engine, &mut self.leaving, id, steps)?;
+        end_flow(&mut self.flows, &mut self.leaving, id);
         bind_one(
             &mut self.engine,
             &mut self.names,
@@ -83,10 +91,12 @@ impl Scope {
         Ok(())
     }
 
-    /// Gives an array other dimensions, with `ReshapeBreaks` where the formula of a view that reaches
-    /// it refuses, and else `StillWatched` where a watcher is attached to it or to one that reaches
-    /// it: then nothing is moved. The parent that it may have is kept until the statement ends. It
-    /// takes at most the steps that make the array ready, and one for each new element.
+    /// Gives an array other dimensions, with `ReshapeBreaks` where the formula of a view that
+    /// reaches it refuses, else `StillWatched` where a watcher is attached to it or to one that
+    /// reaches it, else `FlowTarget` where it is the root of a flow, and else `FlowReads` where a
+    /// flow reads it or one that reaches it: then nothing is moved. The parent that it may have is
+    /// kept until the statement ends. It takes at most the steps that make the array ready, and one
+    /// for each new element.
     pub fn reshape<L: Ledger>(
         &mut self,
         id: ArrayId,
@@ -94,7 +104,8 @@ impl Scope {
         steps: &mut Steps<L>,
     ) -> Result<(), ScopeFault>
         requires { IsLive self.old.arrays.world id }
-        ensures runs { let arrays = reshaped self.old.watches self.old.arrays id dims.now in
+        ensures runs { let old = self.old in
+            let arrays = reshaped old.watches old.flows old.arrays id dims.now in
             let wanted = and_then arrays (λ a. Ok (with_arrays (machine self.old) a, [])) in
             Runs wanted self.old self.new [] [] result }
         ensures counted { let e = engine_of self.old in
@@ -102,11 +113,11 @@ impl Scope {
         ensures unchanged { IfScript result
             (MovesNothing (engine_of self.old) (engine_of self.new) steps.old steps.new) }
     {
-        if is_watched(&self.engine, &self.watches, id) {
+        if let Some(fault) = kept_shape(&self.engine, &self.watches, &self.flows, id) {
             if self.engine.breaks(id, dims)? {
                 return Err(ScopeFault::Script(Fault::ReshapeBreaks));
             }
-            return Err(ScopeFault::Script(Fault::StillWatched));
+            return Err(ScopeFault::Script(fault));
         }
         self.leaving.reserve(1)?;
         Ok(laid_anew(&mut self.engine, &mut self.leaving, id, dims, steps)?)
@@ -157,6 +168,7 @@ fn cut_apart<L: Ledger>(
 {
     cut_laws();
     keeping_laws();
+    meaning_laws();
     hold_parent(engine, leaving, id);
     engine.sever(id, steps)
 }
@@ -183,10 +195,11 @@ fn laid_anew<L: Ledger>(
     ensures counted { steps.new ≤ steps.old + (ready_steps engine.old id + size_of dims.now) }
     ensures unchanged { IfErr result
         (λ fault. fault ≡ Breaks → MovesNothing engine.old engine.new steps.old steps.new) }
-    ensures held { StaysHeld engine.old leaving.old.items engine.new leaving.new.items }
+    ensures held { StaysHeldUnread id engine.old leaving.old.items engine.new leaving.new.items }
 {
     reshape_laws();
     keeping_laws();
+    meaning_laws();
     hold_parent(engine, leaving, id);
     engine.reshape(id, dims, steps)
 }

@@ -19,6 +19,7 @@ ghost use Rattle.pdl_scope.specs.Dumping.{HasRoom, WritesLines, array_at, dump_s
 ghost use Rattle.pdl_scope.specs.Scope.{engine_of, machine, OnlyReads};
 
 use crate::fault::ScopeFault;
+use crate::flows::KeptFlow;
 use crate::kernels::Kernels;
 use crate::names::Names;
 use crate::reading::ready;
@@ -34,9 +35,9 @@ use std::sync::ledger::Ledger;
 
 impl Scope {
     /// The text of the dump, for which the elements of roots are read. It is refused while a slot
-    /// is attached, then where its statements would bind too many names, and then where it is too
-    /// long; only the last of these is found out by reading. It takes at most the steps that it
-    /// takes to read each root.
+    /// is attached, then while there is a flow, then where its statements would bind too many names,
+    /// and then where it is too long; only the last of these is found out by reading. It takes at
+    /// most the steps that it takes to read each root.
     pub fn dump<L: Ledger>(&mut self, steps: &mut Steps<L>) -> Result<Vec<u8>, ScopeFault>
         ensures text { AnswersAs (λ text. text.items) (dumped (machine self.old)) result }
         ensures same { OnlyReads self.old self.new }
@@ -47,6 +48,9 @@ impl Scope {
     {
         if is_any_attached(&self.watches) {
             return Err(ScopeFault::Script(Fault::StillWatched));
+        }
+        if is_any_flow(&self.flows) {
+            return Err(ScopeFault::Script(Fault::DumpFlow));
         }
         if are_too_many(self.engine.live(), self.names.len()) {
             return Err(ScopeFault::Script(Fault::TooManyNames));
@@ -66,6 +70,13 @@ fn is_any_attached(watches: &[Option<ArrayId>]) -> bool
     ensures { result ≡ list_any is_some watches.now }
 {
     watches.iter().any(|slot| slot.is_some())
+}
+
+/// Whether there is a flow.
+fn is_any_flow(flows: &[KeptFlow]) -> bool
+    ensures { result ≡ nat_lt 0 (length flows.now) }
+{
+    flows.len() > 0
 }
 
 /// Whether the dump of so many arrays and names binds too many names.

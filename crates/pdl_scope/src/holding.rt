@@ -1,18 +1,15 @@
 //! How often a scope holds its arrays.
-ghost use Rattle.std.specs.Prelude.{◌≡◌, ℕ, ◌+◌, ◌<◌, ◌≤◌, ◌^◌, [], ◌∷◌, ◌++◌, length, map, true, false, vec_capacity, All, IfSome, IsTrue};
+ghost use Rattle.std.specs.Prelude.{◌≡◌, ℕ, ◌+◌, ◌<◌, ◌≤◌, ◌^◌, List, [], ◌∷◌, ◌++◌, length, map, true, false, vec_capacity, All, IfSome, IsTrue};
 ghost use Rattle.std.specs.Option.{option_to_list};
 ghost use Rattle.pdl_world.specs.Paths.{parent_in};
 ghost use Rattle.pdl_world.specs.Swept.{is_listed};
 ghost use Rattle.pdl_world.specs.Sound.{IsLive};
-ghost use Rattle.pdl_engine.specs.Held.{count_at, written_back};
-ghost use Rattle.pdl_engine.specs.Reading.{KeepsViews};
-ghost use Rattle.pdl_engine.specs.State.{is_fresh};
-ghost use Rattle.pdl_machine.specs.Names.{Names as AllNames, with_name, names_limit};
+ghost use Rattle.pdl_engine.specs.Held.{count_at};
+ghost use Rattle.pdl_machine.specs.Names.{with_name, names_limit};
 ghost use Rattle.pdl_machine.specs.State.{AreLive};
-ghost use Rattle.pdl_machine.specs.Watches.{Watches};
 ghost use Rattle.pdl_scope.specs.Room.{with_names};
-ghost use Rattle.pdl_scope.specs.Scope.{state_in, IsHeld};
-ghost use Rattle.pdl_scope.specs.Holding.{IsHeldBeside, IsHeldForName, IsHeldWith, SameButHolds, StaysHeld, StaysHeldFor, LetsGo};
+ghost use Rattle.pdl_scope.specs.Holding.{AreHeld, AreHeldBeside, IsHeldBeside, IsHeldForName, IsHeldWith, SameButHolds, StaysHeld, StaysHeldFor, LetsGo};
+ghost use Rattle.pdl_scope.specs.LetGo.{GoesOn};
 
 use crate::names::Names;
 use pdl_buf::Steps;
@@ -42,6 +39,17 @@ pub(crate) fn note_some(list: &mut Vec<ArrayId>, id: Option<ArrayId>)
 {
     if let Some(id) = id {
         note(list, id);
+    }
+}
+
+/// Notes arrays in order at the end of a list that has room for them.
+pub(crate) fn note_all(list: &mut Vec<ArrayId>, ids: &[ArrayId])
+    requires { length list.old.items + length ids.now ≤ vec_capacity list.old }
+    ensures items { list.new.items ≡ list.old.items ++ ids.now }
+    ensures room { vec_capacity list.old ≤ vec_capacity list.new }
+{
+    for id in ids {
+        note(list, *id);
     }
 }
 
@@ -150,24 +158,18 @@ pub(crate) fn bind_all(
     }
 }
 
-/// Takes one hold back for each place in a list. That is unseen where names and watches hold all
-/// the others. What is left can be lent as before. It takes at most a step for each element that
-/// waits in a view that goes.
+/// Takes one hold back for each place in a list: what the others reach stays. What is left can be
+/// lent as before. It takes at most a step for each element that waits in a view that goes.
 pub(crate) fn release_all<L: Ledger>(engine: &mut Engine, leaving: &[ArrayId], steps: &mut Steps<L>)
-    requires { IsHeldBeside engine.old leaving.now }
-    ensures lets_go { (names : AllNames) (watches : Watches) →
-        IsHeld (state_in names watches engine.old) engine.old.holds leaving.now →
-        LetsGo names watches engine.old engine.new [] }
-    ensures stay { (v : ℕ) → IsLive engine.new.world v → is_fresh engine.old v ≡ true
-        → is_fresh engine.new v ≡ true }
-    ensures counted { KeepsViews engine.old.world engine.new.world → steps.new ≡ steps.old }
-    ensures written { steps.new ≤ steps.old + written_back engine.old engine.new.world engine.old.world }
+    requires { AreHeldBeside engine.old leaving.now }
+    ensures lets_go { (staying : List ℕ) → AreHeld engine.old staying leaving.now
+        → LetsGo staying engine.old engine.new [] }
+    ensures goes_on { GoesOn engine.old engine.new steps.old steps.new }
 {
     sweep_laws();
     keeping_laws();
     numbering_laws();
     hold_laws();
-    engine.lazy_law();
     for id in leaving {
         engine.holds_law();
         engine.lazy_law();

@@ -1,6 +1,7 @@
-//! A scope: what a session keeps. It has names, kernels, arrays and the slots of watchers, is seen
-//! as a state of the eager machine (`pdl_machine`), and each change of it is one call, whose contract
-//! is the machine's definition. It knows arrays by their numbers alone, and watchers by their slots.
+//! A scope: what a session keeps. It has names, kernels, arrays, the slots of watchers and flows,
+//! is seen as a state of the eager machine (`pdl_machine`), and each change of it is one call, whose
+//! contract is the machine's definition. It knows arrays by their numbers alone, and watchers by
+//! their slots.
 #![tactic(auto)]
 
 mod assigning;
@@ -8,6 +9,9 @@ mod calling;
 mod cutting;
 mod dumping;
 mod fault;
+mod flowing;
+mod flows;
+mod following;
 mod holding;
 mod kernels;
 mod laws;

@@ -1,4 +1,4 @@
-//! Names, kernels, arrays, and which of these watchers are attached to.
+//! Names, kernels, arrays, which of these watchers are attached to, and flows.
 ghost use Rattle.std.specs.Prelude.{◌≡◌, ℕ, ◌+◌, ◌<◌, ◌≤◌, true, false, [], length, map, sum_by, All, IfOk, IfSome, IsTrue, is_some, slice_get, Some};
 ghost use Rattle.pdl_shape.specs.Shape.{IsDims};
 ghost use Rattle.pdl_numbers.specs.Typed.{count_moved};
@@ -13,7 +13,7 @@ ghost use Rattle.pdl_engine.specs.State.{no_arrays, is_fresh, IsLazy};
 ghost use Rattle.pdl_machine.specs.Calls.{outputs_of};
 ghost use Rattle.pdl_machine.specs.Names.{found, nothing_named, number_of};
 ghost use Rattle.pdl_machine.specs.State.{kept, with_world, IsWhole};
-ghost use Rattle.pdl_machine.specs.Tidy.{tidy};
+ghost use Rattle.pdl_machine.specs.Tidy.{settled, tidy};
 ghost use Rattle.pdl_machine.specs.Outcome.{new_root, new_view};
 ghost use Rattle.pdl_machine.specs.Step.{bind_value, roots_bound, kernel_named};
 ghost use Rattle.pdl_scope.specs.Scope.{engine_of, machine, scope_in, Grows, OnlyReads, array_of, arrays_seen, shape_in};
@@ -22,22 +22,25 @@ ghost use Rattle.pdl_scope.specs.Costs.{can_call, IsInOrder, MovesWithin};
 
 use crate::calling::kernel_outputs;
 use crate::fault::ScopeFault;
+use crate::flowing::let_flows_go;
+use crate::flows::KeptFlow;
 use crate::holding::{bind_all, hold_for_name, note, note_some, release_all};
 use crate::kernels::{DefinedKernel, Kernels};
 use crate::names::Names;
 use pdl_buf::{Elements, Made, Steps};
 use pdl_elem::{Name, Ty};
 use pdl_engine::{ArrayId, Engine, hold_laws};
+use pdl_flow::meaning_laws;
 use pdl_machine::{Fault, numbering_laws};
 use pdl_shape::Dims;
-use pdl_world::{Trans, growth_laws, keeping_laws};
+use pdl_world::{Trans, breaking_laws, growth_laws, keeping_laws, sweep_laws};
 use std::alloc::Global;
 use std::marker::Model;
 use std::sync::ledger::Ledger;
 
-/// Names, kernels, the slots of watchers, and an engine that keeps the arrays that names and
-/// attached slots reach, and those of the statement that runs. It is seen as its names, its arrays,
-/// the arrays that slots are attached to, and what its engine can lend.
+/// Names, kernels, the slots of watchers, flows, and an engine that keeps the arrays that names,
+/// attached slots and formulas reach, and those of the statement that runs. It is seen as its names,
+/// its arrays, the arrays that slots are attached to, its flows, and what its engine can lend.
 #[derive(Drop)]
 pub struct Scope {
     pub(crate) alloc: Global,
@@ -46,26 +49,35 @@ pub struct Scope {
     pub(crate) engine: Engine,
     /// By slots the array that the slot's watcher is attached to, which is held once more for it.
     pub(crate) watches: Vec<Option<ArrayId>>,
+    /// In the order in which they were made. What a formula reads is held once for each place in
+    /// it; the root isn't held.
+    pub(crate) flows: Vec<KeptFlow>,
     /// Arrays that are held once more until the statement ends: those that it made, and those that
-    /// a name gave up.
+    /// a name or a flow gave up.
     pub(crate) leaving: Vec<ArrayId>,
 }
 
 impl Model for Scope {
+    ghost use Rattle.std.specs.Coded.{codes};
+    ghost use Rattle.pdl_scope.specs.Coding.{coded_formula};
     ghost use Rattle.pdl_scope.specs.Scope.{names_in, scope_in, state_in, IsHeld, Scope as Seen};
 
     ghost Value = { Seen };
 
-    ghost view = { λ s. scope_in (names_in s.names.entries s.kernels) s.watches.items s.engine };
+    ghost coded = { Prim.hlevel (codes, coded_formula) };
+
+    ghost view = { λ s. let names = names_in s.names.entries s.kernels in
+        scope_in names s.watches.items s.flows.items s.engine };
 
     ghost invariant = { λ s. let names = names_in s.names.entries s.kernels in
-        IsHeld (state_in names s.watches.items s.engine) s.engine.holds s.leaving.items };
+        let state = state_in names s.watches.items s.flows.items s.engine in
+        IsHeld state s.engine.holds s.leaving.items };
 }
 
 impl Scope {
-    /// No names, no kernels, no arrays, and no slot attached.
+    /// No names, no kernels, no arrays, no slot attached, and no flows.
     pub fn new(alloc: Global) -> Scope
-        ensures { result ≡ scope_in nothing_named [] no_arrays }
+        ensures { result ≡ scope_in nothing_named [] [] no_arrays }
     {
         Scope {
             alloc,
@@ -73,6 +85,7 @@ impl Scope {
             kernels: Kernels::new(alloc),
             engine: Engine::new(alloc),
             watches: Vec::new(alloc),
+            flows: Vec::new(alloc),
             leaving: Vec::new(alloc),
         }
     }
@@ -165,6 +178,7 @@ impl Scope {
     {
         growth_laws();
         keeping_laws();
+        meaning_laws();
         hold_laws();
         self.engine.holds_law();
         self.leaving.reserve(1)?;
@@ -217,6 +231,7 @@ impl Scope {
     {
         growth_laws();
         keeping_laws();
+        meaning_laws();
         hold_laws();
         self.engine.holds_law();
         self.leaving.reserve(1)?;
@@ -277,12 +292,14 @@ impl Scope {
         Ok(())
     }
 
-    /// Takes back the holds that end with a statement, so that what no name and no watcher reaches
-    /// goes. What is left when the state is tidied is the same, and what is left can be lent as
-    /// before. It takes at most a step for each element that waits in a view that goes: so none where
-    /// each view that waits is left.
+    /// Takes back the holds that end with a statement, so that what no name, no watcher and no flow
+    /// that stays needs goes. From the newest on, a flow whose root isn't there any more goes too.
+    /// What is left when the state is tidied is the same, and what is left can be lent as before. It
+    /// takes no memory, and at most a step for each element that waits in a view that goes: so none
+    /// where each view that waits is left.
     pub fn let_go<L: Ledger>(&mut self, steps: &mut Steps<L>)
-        ensures gone { machine self.new ≡ with_world (machine self.old) (kept (machine self.old)) }
+        ensures gone { let s = machine self.old in
+            machine self.new ≡ with_world (settled s) (kept s) }
         ensures unseen { tidy (machine self.new) ≡ tidy (machine self.old) }
         ensures stay { (v : ℕ) → IsLive self.new.arrays.world v
             → is_fresh (engine_of self.old) v ≡ true → is_fresh (engine_of self.new) v ≡ true }
@@ -292,8 +309,14 @@ impl Scope {
             steps.new ≤ steps.old + written_back e self.new.arrays.world e.world }
     {
         numbering_laws();
+        meaning_laws();
+        sweep_laws();
+        keeping_laws();
+        breaking_laws();
+        self.engine.lazy_law();
         release_all(&mut self.engine, &self.leaving, steps);
         self.leaving.clear();
+        let_flows_go(&mut self.engine, &mut self.flows, steps);
     }
 
     /// How many arrays there are.

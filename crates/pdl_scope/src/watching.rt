@@ -1,22 +1,26 @@
 //! Which arrays the slots of watchers are attached to, and what watchers are to be told.
 ghost use Rattle.std.specs.Option.{option_map_or};
-ghost use Rattle.std.specs.Prelude.{◌≡◌, ◌≢◌, ◌+◌, ◌<◌, ◌≤◌, ℕ, ℤ, List, sum_by, [], length, take, IfOk, IfSome, IsSome, is_some, None, Ok, OnOk, OnErr, ◌∷◌};
+ghost use Rattle.std.specs.Prelude.{◌≡◌, ◌≢◌, false, ◌+◌, ◌<◌, ◌≤◌, ℕ, ℤ, List, sum_by, [], length, take, IfOk, IfSome, IsSome, is_some, None, Ok, OnOk, OnErr, ◌∷◌};
 ghost use Rattle.pdl_world.specs.Sound.{IsLive};
 ghost use Rattle.pdl_world.specs.World.{assign, elements};
 ghost use Rattle.pdl_world.specs.Paths.{root_of};
+ghost use Rattle.pdl_world.specs.Swept.{is_listed};
 ghost use Rattle.pdl_engine.specs.Foresights.{Foretells};
 ghost use Rattle.pdl_engine.specs.Reading.{read_steps};
 ghost use Rattle.pdl_engine.specs.State.{SameArrays, StayFresh};
 ghost use Rattle.pdl_watch.specs.Changes.{changes};
 ghost use Rattle.pdl_watch.specs.Slots.{lists_of};
 ghost use Rattle.pdl_machine.specs.Cuts.{is_watched};
+ghost use Rattle.pdl_machine.specs.Flows.{all_read};
 ghost use Rattle.pdl_machine.specs.State.{AreLive};
 ghost use Rattle.pdl_machine.specs.Watches.{attach, attached, detach, notices, padded, slot_notices, trimmed, watch_of};
 ghost use Rattle.pdl_scope.specs.Answers.{Runs};
-ghost use Rattle.pdl_scope.specs.Assigning.{CanAssign};
+ghost use Rattle.pdl_scope.specs.Plans.{AreForetold, all_assigned, roots_in};
 ghost use Rattle.pdl_scope.specs.Scope.{machine, slots_limit};
 
 use crate::fault::ScopeFault;
+use crate::flows::KeptFlow;
+use crate::following::{Change, find_change};
 use crate::holding::note_some;
 use crate::scope::Scope;
 use pdl_buf::Steps;
@@ -24,7 +28,7 @@ use pdl_engine::{ArrayId, Engine, Foresight, hold_laws};
 use pdl_machine::watching_laws;
 use pdl_shape::elements_of;
 use pdl_watch::{Notice, change_laws, changes};
-use pdl_world::keeping_laws;
+use pdl_world::{assignment_laws, keeping_laws, part_laws};
 use std::alloc::{AllocError, Global};
 use std::sync::ledger::Ledger;
 
@@ -167,6 +171,21 @@ fn is_below(engine: &Engine, watch: Option<ArrayId>, id: ArrayId) -> bool
     }
 }
 
+/// How many elements will be looked up, at most, to foresee what slots are told, and what flows
+/// read of the family of an array that is assigned to.
+pub(crate) fn lookups(
+    engine: &Engine,
+    watches: &[Option<ArrayId>],
+    flows: &[KeptFlow],
+    target: ArrayId,
+) -> u64
+    requires target { IsLive engine.now.world target }
+    requires watched { AreLive engine.now.world (attached watches.now) }
+    requires read { AreLive engine.now.world (all_read flows.now) }
+{
+    watched_count(engine, watches).saturating_add(read_count(engine, flows, engine.root(target)))
+}
+
 /// How many elements the arrays of the attached slots have, each slot's counted.
 fn watched_count(engine: &Engine, watches: &[Option<ArrayId>]) -> u64
     requires { AreLive engine.now.world (attached watches.now) }
@@ -188,50 +207,54 @@ fn count_of(engine: &Engine, watch: Option<ArrayId>) -> u64
     }
 }
 
-/// What the watcher of each slot is to be told of an assignment that will be made. Its target can
-/// be lent, and so it can afterwards. What it will write is found once for all slots. Where no slot
-/// is attached nothing is looked at.
+/// How many elements the arrays of a root have that formulas of flows read, each place in a
+/// formula counted.
+fn read_count(engine: &Engine, flows: &[KeptFlow], root: ArrayId) -> u64
+    requires { AreLive engine.now.world (all_read flows.now) }
+{
+    let mut count: u64 = 0;
+    for flow in flows {
+        count = count.saturating_add(count_all(engine, flow.reads(), root));
+    }
+    count
+}
+
+/// How many elements those of these arrays have together that have this root.
+fn count_all(engine: &Engine, ids: &[ArrayId], root: ArrayId) -> u64
+    requires { AreLive engine.now.world ids.now }
+{
+    let mut count: u64 = 0;
+    for id in ids {
+        count = count.saturating_add(count_below(engine, *id, root));
+    }
+    count
+}
+
+/// How many elements an array has, and none where it has another root.
+fn count_below(engine: &Engine, id: ArrayId, root: ArrayId) -> u64
+    requires { IsLive engine.now.world id }
+{
+    if engine.root(id) != root {
+        return 0;
+    }
+    u64::from(elements_of(engine.dims(id)))
+}
+
+/// What the watcher of each slot is to be told of the assignments of a plan, which will be made.
+/// What could be lent can be lent. Where no slot is attached nothing is looked at.
 pub(crate) fn foreseen<L: Ledger>(
     alloc: Global,
     engine: &mut Engine,
     number: u64,
-    target: ArrayId,
-    values: &[i64],
+    plan: &[Change],
     watches: &[Option<ArrayId>],
     steps: &mut Steps<L>,
 ) -> Result<Vec<Vec<Notice>>, AllocError>
-    requires assigns { CanAssign engine.old target values.now }
     requires watched { AreLive engine.old.world (attached watches.now) }
+    requires plan { AreForetold engine.old.world plan.now }
     ensures told { let w = engine.old.world in
-        let wanted = notices number w (assign w target values.now) watches.now in
+        let wanted = notices number w (all_assigned w plan.now) watches.now in
         IfOk result (λ all. lists_of all.items ≡ wanted) }
-    ensures same { SameArrays engine.old engine.new }
-    ensures stay { StayFresh engine.old engine.new }
-    ensures quiet { attached watches.now ≡ [] → steps.new ≡ steps.old }
-    ensures counted { let most = sum_by (read_steps engine.old) (attached watches.now) in
-        steps.new ≤ steps.old + most }
-{
-    if watches.is_empty() {
-        return Ok(Vec::new(alloc));
-    }
-    let lookups = watched_count(engine, watches);
-    let foresight = engine.foretell(target, values, lookups)?;
-    all_foreseen(alloc, engine, number, &foresight, watches, steps)
-}
-
-/// What the watcher of each slot is to be told, where this is what will be written.
-fn all_foreseen<L: Ledger>(
-    alloc: Global,
-    engine: &mut Engine,
-    number: u64,
-    foresight: &Foresight,
-    watches: &[Option<ArrayId>],
-    steps: &mut Steps<L>,
-) -> Result<Vec<Vec<Notice>>, AllocError>
-    requires { AreLive engine.old.world (attached watches.now) }
-    ensures told { let w = engine.old.world in
-        (v : ℕ) → (vs : List ℤ) → Foretells w v vs foresight.now
-        → IfOk result (λ all. lists_of all.items ≡ notices number w (assign w v vs) watches.now) }
     ensures same { SameArrays engine.old engine.new }
     ensures stay { StayFresh engine.old engine.new }
     ensures quiet { attached watches.now ≡ [] → steps.new ≡ steps.old }
@@ -242,7 +265,7 @@ fn all_foreseen<L: Ledger>(
     engine.resting_law();
     for watch in watches {
         engine.resting_law();
-        let told = slot_foreseen(alloc, engine, number, foresight, *watch, steps)?;
+        let told = slot_foreseen(alloc, engine, number, plan, *watch, steps)?;
         all.push(told)?;
     }
     Ok(all)
@@ -253,14 +276,15 @@ fn slot_foreseen<L: Ledger>(
     alloc: Global,
     engine: &mut Engine,
     number: u64,
-    foresight: &Foresight,
+    plan: &[Change],
     watch: Option<ArrayId>,
     steps: &mut Steps<L>,
 ) -> Result<Vec<Notice>, AllocError>
-    requires { IfSome watch (IsLive engine.old.world) }
+    requires watched { IfSome watch (IsLive engine.old.world) }
+    requires plan { AreForetold engine.old.world plan.now }
     ensures told { let w = engine.old.world in
-        (v : ℕ) → (vs : List ℤ) → Foretells w v vs foresight.now
-        → IfOk result (λ ns. ns.items ≡ slot_notices number w (assign w v vs) watch) }
+        let wanted = slot_notices number w (all_assigned w plan.now) watch in
+        IfOk result (λ ns. ns.items ≡ wanted) }
     ensures same { SameArrays engine.old engine.new }
     ensures stay { StayFresh engine.old engine.new }
     ensures quiet { watch ≡ None → steps.new ≡ steps.old }
@@ -268,12 +292,42 @@ fn slot_foreseen<L: Ledger>(
         steps.new ≤ steps.old + most }
 {
     match watch {
-        Some(id) => changes_foreseen(alloc, engine, number, foresight, id, steps),
+        Some(id) => array_foreseen(alloc, engine, number, plan, id, steps),
         None => Ok(Vec::new(alloc)),
     }
 }
 
-/// Where an array will change, and how.
+/// Where an array will change, and how. Of an array of a root that the plan doesn't alter nothing is
+/// read.
+fn array_foreseen<L: Ledger>(
+    alloc: Global,
+    engine: &mut Engine,
+    number: u64,
+    plan: &[Change],
+    seen: ArrayId,
+    steps: &mut Steps<L>,
+) -> Result<Vec<Notice>, AllocError>
+    requires live { IsLive engine.old.world seen }
+    requires plan { AreForetold engine.old.world plan.now }
+    ensures told { let w = engine.old.world in
+        let wanted = changes number (elements w seen) (elements (all_assigned w plan.now) seen) in
+        IfOk result (λ ns. ns.items ≡ wanted) }
+    ensures same { SameArrays engine.old engine.new }
+    ensures stay { StayFresh engine.old engine.new }
+    ensures counted { steps.new ≤ steps.old + read_steps engine.old seen }
+    ensures apart { is_listed (roots_in plan.now) (root_of engine.old.world seen) ≡ false
+        → (engine.new ≡ engine.old) × (steps.new ≡ steps.old) }
+{
+    assignment_laws();
+    part_laws();
+    change_laws();
+    match find_change(plan, engine.root(seen)) {
+        Some(change) => changes_foreseen(alloc, engine, number, change.foresight(), seen, steps),
+        None => Ok(Vec::new(alloc)),
+    }
+}
+
+/// Where an array will change by one assignment, and how.
 fn changes_foreseen<L: Ledger>(
     alloc: Global,
     engine: &mut Engine,

@@ -20,7 +20,6 @@ use Rattle.pdl_syntax.specs.StatementTree.{StatementTree, View, assign, show, vi
 use Rattle.pdl_syntax.specs.declared.tree.ViewCall.{ViewCall}
 use Rattle.pdl_syntax.specs.Tree.{Tree, number, named, literal, unary, binary, call}
 use Rattle.pdl_machine.specs.Arrays.{Arrays}
-use Rattle.pdl_machine.specs.Laws.{AreGrown}
 use Rattle.pdl_machine.specs.Names.{number_of}
 use Rattle.pdl_machine.specs.State.{IsWhole}
 use Rattle.pdl_machine.specs.Value.{known, value_of}
@@ -28,19 +27,11 @@ use Rattle.pdl_machine.specs.Watches.{attached}
 use Rattle.pdl_scope.specs.declared.fault.ScopeFault.{ScopeFault}
 use Rattle.pdl_scope.specs.Growth.{reads_refl}
 use Rattle.pdl_scope.specs.Scope.{Scope, engine_of, machine, Grows, OnlyReads}
+use Rattle.pdl_machine.specs.Flows.{affected}
+use Rattle.pdl_world.specs.Paths.{root_of}
+use Rattle.pdl_session.proofs.Affected.{late_affected, unread_affects_none}
+use Rattle.pdl_session.proofs.Grown.{grown_seen}
 use Rattle.pdl_session.specs.Bounds.{AssignsPlainly, EvaluatesPlainly, IsBare, LeavesReadable, MakesRoot, MovesPlainly, PrintsPlainly, plain_count}
-
--- an older array is seen as before new ones came
-pub grown_look : OlderStay → (more w : World) (v : ℕ) → IsSound (more ++ w) → IsLive w v → look (more ++ w) v ≡ look w v
-grown_look older [] w v sound live = refl
-grown_look older ((k, d) ∷ more) w v sound live =
-    let seen : look (more ++ w) v ≡ look w v = grown_look older more w v sound.2 live in
-    let there : IsLive (more ++ w) v = subst (λ o. IsSomeAnd o (λ l. Unit {0})) (sym seen) live in
-    older (more ++ w) k v d sound.0 there ∙ seen
-
-pub grown_seen : OlderStay → (old new : Arrays) (v : ℕ) → AreGrown old new → IsSound new.world → IsLive old.world v → look new.world v ≡ look old.world v
-grown_seen older old new v grown sound live =
-    ap (λ w. look w v) grown.is ∙ grown_look older grown.more old.world v (subst IsSound grown.is sound) live
 
 -- a target without views is a bare name
 pub no_views_of : (vs : List ViewCall) → map view_of vs ≡ [] → vs ≡ []
@@ -62,7 +53,7 @@ target_refused x [] sign e old new before after r bare = by_count (plain_count e
     by_count : (o : Option ℕ) → IfSome o (λ n. AssignsPlainly x n old new before after)
     by_count None = tt
     by_count (Some n) = record {
-      counted = λ v is fresh none. (let e = at.unmoved in omega (arith, e));
+      counted = λ v is fresh none unread. (let e = at.unmoved in omega (arith, e));
       roots = subst (λ s. KeepsViews s.arrays.world old.arrays.world) (sym at.same) (no_views old.arrays.world);
     }
 
@@ -89,17 +80,17 @@ value_refused x [] sign e old mid new before now after t r bare plain = by_count
     by_count (Some n) is =
         let root : MakesRoot n mid new now after r = root_of_plain e mid new now after r n is plain in
         record {
-          counted = λ v bound fresh none. (let a = at.unmoved in let b = root.counted in omega (arith, a, b));
+          counted = λ v bound fresh none unread. (let a = at.unmoved in let b = root.counted in omega (arith, a, b));
           roots = subst (λ s. KeepsViews new.arrays.world s.arrays.world) at.same root.roots;
         }
 
 -- an assignment whose both sides came
 pub assigned_plainly : OlderStay → (x : List ℕ) (vs : List View) (sign : AssignOp) (e : Tree) (old mid late new : Scope) (before now then after to from : ℕ)
-    → (vs ≡ [] → IsBare x old mid before now (Ok to)) → IsLive mid.arrays.world to → EvaluatesPlainly e mid late now then (Ok from) → Grows mid late → IsWhole (machine late)
-    → (is_fresh (engine_of late) to ≡ true → is_fresh (engine_of late) from ≡ true → attached late.watches ≡ [] → after ≤ then + size_of (dims_in late.arrays.world to))
+    → (vs ≡ [] → IsBare x old mid before now (Ok to)) → IsLive mid.arrays.world to → EvaluatesPlainly e mid late now then (Ok from) → Grows mid late → IsWhole (machine mid) → IsWhole (machine late)
+    → (affected late.arrays.world late.flows (root_of late.arrays.world to ∷ []) ≡ [] → is_fresh (engine_of late) to ≡ true → is_fresh (engine_of late) from ≡ true → attached late.watches ≡ [] → after ≤ then + size_of (dims_in late.arrays.world to))
     → KeepsViews new.arrays.world late.arrays.world → MovesPlainly (assign x vs sign e) old new before after
-assigned_plainly older x (v ∷ vs) sign e old mid late new before now then after to from bare live plain grown whole at_once views = tt
-assigned_plainly older x [] sign e old mid late new before now then after to from bare live plain grown whole at_once views = by_count (plain_count e) refl
+assigned_plainly older x (v ∷ vs) sign e old mid late new before now then after to from bare live plain grown before_it whole at_once views = tt
+assigned_plainly older x [] sign e old mid late new before now then after to from bare live plain grown before_it whole at_once views = by_count (plain_count e) refl
   where
     at : IsBare x old mid before now (Ok to)
     at = bare refl
@@ -109,11 +100,14 @@ assigned_plainly older x [] sign e old mid late new before now then after to fro
     by_count (Some n) is =
         let root : MakesRoot n mid late now then (Ok from) = root_of_plain e mid late now then (Ok from) n is plain in
         record {
-          counted = λ v bound fresh none.
+          counted = λ v bound fresh none unread.
               let to_is : to ≡ v = (let z : Some to ≡ Some v = sym at.is ∙ bound in cc) in
               let fresh_mid : is_fresh (engine_of mid) to ≡ true = subst (λ s. is_fresh (engine_of s) to ≡ true) (sym at.same) (subst (λ u. is_fresh (engine_of old) u ≡ true) (sym to_is) fresh) in
               let none_late : attached late.watches ≡ [] = ap attached grown.watches ∙ ap (λ s. attached s.watches) at.same ∙ none in
-              let moved : after ≤ then + size_of (dims_in late.arrays.world to) = at_once (grown.stay to fresh_mid) root.fresh none_late in
+              let alone : affected late.arrays.world late.flows (root_of late.arrays.world to ∷ []) ≡ [] =
+              late_affected older mid late to grown before_it whole live ∙ ap (λ (s : Scope). affected s.arrays.world s.flows (root_of s.arrays.world to ∷ [])) at.same
+              ∙ ap (λ u. affected old.arrays.world old.flows (root_of old.arrays.world u ∷ [])) to_is ∙ unread_affects_none old v unread in
+              let moved : after ≤ then + size_of (dims_in late.arrays.world to) = at_once alone (grown.stay to fresh_mid) root.fresh none_late in
               let seen : look late.arrays.world to ≡ look old.arrays.world v =
               grown_seen older mid.arrays late.arrays to grown.arrays whole.sound live ∙ ap (λ s. look s.arrays.world to) at.same ∙ ap (look old.arrays.world) to_is in
               let sizes : size_of (dims_in late.arrays.world to) ≡ size_of (dims_in old.arrays.world v) = ap (λ o. size_of (option_map_or (λ (l : Look). l.dims) o [])) seen in

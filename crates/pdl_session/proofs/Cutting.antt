@@ -5,11 +5,11 @@ use Rattle.pdl_syntax.specs.StatementTree.{reshape, sever}
 use Rattle.pdl_machine.specs.declared.fault.Fault.{Fault}
 use Rattle.pdl_machine.specs.declared.fault.Fault.TheVariants.{UnknownName}
 use Rattle.pdl_machine.specs.Names.{number_of}
-use Rattle.pdl_machine.specs.Cuts.{cut, severed, dims_given, reshaped}
+use Rattle.pdl_machine.specs.Cuts.{dims_given, reshaped}
 use Rattle.pdl_machine.specs.Fills.{numbers_in, dims_for}
 use Rattle.pdl_machine.specs.Outcome.{Given as Argument, Valued}
 use Rattle.pdl_machine.specs.State.{State, with_arrays}
-use Rattle.pdl_machine.specs.Step.{Stepped, bind_value, bound, reshaping, severing, effect}
+use Rattle.pdl_machine.specs.Step.{Stepped, bind_severed, reshaping, severing, effect}
 use Rattle.pdl_machine.specs.Then.{and_then, or_fault}
 use Rattle.pdl_machine.specs.Value.{taken}
 use Rattle.pdl_scope.specs.declared.fault.ScopeFault.{ScopeFault}
@@ -23,10 +23,10 @@ use Rattle.pdl_session.proofs.Statements.{runs_from}
 
 -- a binding to what is cut, after its value came
 pub runs_severed : {T : Type 0} (r : Result T ScopeFault) (old mid new : Scope) (x : List ℕ) (valued : Valued) (id : ℕ) → valued ≡ Ok (mid.arrays, id) → Grows old mid
-    → Runs (bind_value (machine mid) x (cut mid.arrays id, id)) mid new [] [] r → Runs (bound (machine old) x (severed valued)) old new [] [] r
+    → Runs (bind_severed (machine mid) x (mid.arrays, id)) mid new [] [] r → Runs (and_then valued (bind_severed (machine old) x)) old new [] [] r
 runs_severed r old mid new x valued id is g h =
-    let next : State → Stepped = λ s. bind_value s x (cut mid.arrays id, id) in
-    runs_from r (bind_value (machine mid) x (cut mid.arrays id, id)) (bound (machine old) x (severed valued)) old mid new [] [] (ap (λ v. and_then (severed v) (bind_value (machine old) x)) is ∙ ap next (sym (state_is old mid g))) g h
+    let next : State → Stepped = λ s. bind_severed s x (mid.arrays, id) in
+    runs_from r (bind_severed (machine mid) x (mid.arrays, id)) (and_then valued (bind_severed (machine old) x)) old mid new [] [] (ap (λ v. and_then v (bind_severed (machine old) x)) is ∙ ap next (sym (state_is old mid g))) g h
 
 -- the array of a name is cut
 pub runs_cut : {T : Type 0} (r : Result T ScopeFault) (old new : Scope) (x : List ℕ) (id : ℕ) → number_of old.names x ≡ Some id → Runs (severing (machine old) id) old new [] [] r → Runs (effect [] (machine old) (sever x)) old new [] [] r
@@ -50,18 +50,18 @@ reshape_refused s x args id f known h = subst (λ y. IsFault y f) (sym (reshape_
 -- sizes that are no numbers, and numbers that are no dimensions
 pub sizes_refused : (s : Scope) (id : ℕ) (given : List Given) (f : ScopeFault) → IsFault (numbers_in (all_seen_of s.arrays given)) f → IsFault (reshaping (machine s) id (s.arrays, arguments given)) f
 sizes_refused s id given f h =
-    first_fault (dims_given (s.arrays, arguments given)) (λ ds. and_then (reshaped s.watches s.arrays id ds) (λ a. Ok (with_arrays (machine s) a, []))) f (first_fault (numbers_in (all_seen_of s.arrays given)) dims_for f h)
+    first_fault (dims_given (s.arrays, arguments given)) (λ ds. and_then (reshaped s.watches s.flows s.arrays id ds) (λ a. Ok (with_arrays (machine s) a, []))) f (first_fault (numbers_in (all_seen_of s.arrays given)) dims_for f h)
 
 pub dims_refused : (s : Scope) (id : ℕ) (given : List Given) (ns : List ℤ) (f : ScopeFault) → numbers_in (all_seen_of s.arrays given) ≡ Ok ns → IsFault (dims_for ns) f → IsFault (reshaping (machine s) id (s.arrays, arguments given)) f
 dims_refused s id given ns f numbers h =
     let P : Result (List ℤ) Fault → Type 0 = λ x. IsFault (and_then x dims_for) f in
-    first_fault (dims_given (s.arrays, arguments given)) (λ ds. and_then (reshaped s.watches s.arrays id ds) (λ a. Ok (with_arrays (machine s) a, []))) f (subst P (sym numbers) h)
+    first_fault (dims_given (s.arrays, arguments given)) (λ ds. and_then (reshaped s.watches s.flows s.arrays id ds) (λ a. Ok (with_arrays (machine s) a, []))) f (subst P (sym numbers) h)
 
 -- after the dimensions are known
 pub runs_resized : {T : Type 0} (r : Result T ScopeFault) (old mid new : Scope) (id : ℕ) (given : List Given) (ns : List ℤ) (ds : List ℕ) → numbers_in (all_seen_of old.arrays given) ≡ Ok ns → dims_for ns ≡ Ok ds → OnlyReads old mid
-    → Runs (and_then (reshaped mid.watches mid.arrays id ds) (λ a. Ok (with_arrays (machine mid) a, []))) mid new [] [] r → Runs (reshaping (machine old) id (old.arrays, arguments given)) old new [] [] r
+    → Runs (and_then (reshaped mid.watches mid.flows mid.arrays id ds) (λ a. Ok (with_arrays (machine mid) a, []))) mid new [] [] r → Runs (reshaping (machine old) id (old.arrays, arguments given)) old new [] [] r
 runs_resized r old mid new id given ns ds numbers dims read h =
-    let next : State → List ℕ → Stepped = λ s ds. and_then (reshaped s.watches s.arrays id ds) (λ a. Ok (with_arrays s a, [])) in
+    let next : State → List ℕ → Stepped = λ s ds. and_then (reshaped s.watches s.flows s.arrays id ds) (λ a. Ok (with_arrays s a, [])) in
     let D : Result (List ℕ) Fault → Stepped = λ x. and_then x (next (machine old)) in
     let is : reshaping (machine old) id (old.arrays, arguments given) ≡ next (machine mid) ds =
     ap (λ x. D (and_then x dims_for)) numbers ∙ ap D dims ∙ ap (λ (s : State). next s ds) (sym (unread old mid read)) in

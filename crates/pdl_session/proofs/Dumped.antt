@@ -1,12 +1,12 @@
 -- What a dump prints.
 use Rattle.std.proofs.Common.{◌≡◌, ℕ, List, [], Bool, true, false, Result, Ok, Err, refl, sym, ap, subst, ◌∙◌}
-use Rattle.std.specs.Prelude.{◌++◌, if◌then◌else◌, map, nat_lt, is_some}
+use Rattle.std.specs.Prelude.{◌++◌, if◌then◌else◌, length, map, nat_lt, is_some}
 use Rattle.std.specs.List.{list_any}
 use Rattle.pdl_image.specs.Dump.{is_too_long, dump as dump_of}
 use Rattle.pdl_image.specs.Lines.{Line, script_of}
-use Rattle.pdl_syntax.specs.StatementTree.{StatementTree, dump, bind, bind_list, assign, show, show_text, sever, reshape, undef, vars, pp_def, watch, unwatch}
+use Rattle.pdl_syntax.specs.StatementTree.{StatementTree, dump, bind, bind_list, assign, show, show_text, sever, reshape, undef, vars, pp_def, watch, unwatch, flow}
 use Rattle.pdl_machine.specs.declared.fault.Fault.{Fault}
-use Rattle.pdl_machine.specs.declared.fault.Fault.TheVariants.{DumpTooLong, StillWatched, TooManyNames}
+use Rattle.pdl_machine.specs.declared.fault.Fault.TheVariants.{DumpFlow, DumpTooLong, StillWatched, TooManyNames}
 use Rattle.pdl_machine.specs.Then.{and_then}
 use Rattle.pdl_machine.specs.State.{State}
 use Rattle.pdl_machine.specs.Tidy.{tidy}
@@ -38,12 +38,13 @@ text_is lines text is = by_test (is_too_long [] lines) is
     by_test false is = sym (ap inside is)
 
 dumped_is : (s : State) (text : List ℕ) → dumped s ≡ Ok text → text ≡ script_of (dump_lines s)
-dumped_is s text is = by_tests (list_any is_some s.watches) (nat_lt names_limit (names_wanted s)) is
+dumped_is s text is = by_tests (list_any is_some s.watches) (nat_lt 0 (length s.flows)) (nat_lt names_limit (names_wanted s)) is
   where
-    by_tests : (a b : Bool) → (if a then Err StillWatched else if b then Err TooManyNames else text_within (dump_lines s)) ≡ Ok text → text ≡ script_of (dump_lines s)
-    by_tests true b is = absurd (cc)
-    by_tests false true is = absurd (cc)
-    by_tests false false is = text_is (dump_lines s) text is
+    by_tests : (a f b : Bool) → (if a then Err StillWatched else if f then Err DumpFlow else if b then Err TooManyNames else text_within (dump_lines s)) ≡ Ok text → text ≡ script_of (dump_lines s)
+    by_tests true f b is = absurd (cc)
+    by_tests false true b is = absurd (cc)
+    by_tests false false true is = absurd (cc)
+    by_tests false false false is = text_is (dump_lines s) text is
 
 -- what a step by `dump` prints is the dump, which isn't refused
 stepped_text : (number : ℕ) (present : List Bool) (s : State) (d : Done) → step number present s dump ≡ Ok d → dumped s ≡ Ok d.text
@@ -83,6 +84,7 @@ prints_dump law old seen vars is again ran = tt
 prints_dump law old seen (pp_def f s c) is again ran = tt
 prints_dump law old seen (watch x k) is again ran = tt
 prints_dump law old seen (unwatch k) is again ran = tt
+prints_dump law old seen (flow x e) is again ran = tt
 
 -- what the statement does, by the text that the scope answers
 pub dump_performed : {T : Type 0} (x : T) (old new : Scope) (text o n : List ℕ) → dumped (machine old) ≡ Ok text → OnlyReads old new → n ≡ o ++ text

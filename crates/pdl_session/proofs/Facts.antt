@@ -2,6 +2,7 @@
 use Rattle.std.proofs.Common.{◌≡◌, ℕ, List, Result, Ok, Err, refl, sym, ap, subst, ◌∙◌}
 use Rattle.std.specs.Result.{IsErrAnd}
 use Rattle.pdl_machine.specs.declared.fault.Fault.{Fault}
+use Rattle.pdl_machine.specs.Flows.{Flows}
 use Rattle.pdl_machine.specs.Names.{Names}
 use Rattle.pdl_machine.specs.State.{State, with_arrays}
 use Rattle.pdl_machine.specs.Outcome.{Valued}
@@ -25,9 +26,10 @@ reads_trans a b c g h = growth.reads_trans a b c g h
 -- the arrays are all that differs
 pub state_is : (old new : Scope) → Grows old new → machine new ≡ with_arrays (machine old) new.arrays
 state_is old new g =
-    let named : Names → State = λ names. record { names = names; arrays = new.arrays; watches = new.watches } in
-    let watched : Watches → State = λ watches. record { names = old.names; arrays = new.arrays; watches = watches } in
-    ap named g.names ∙ ap watched g.watches
+    let named : Names → State = λ names. record { names = names; arrays = new.arrays; watches = new.watches; flows = new.flows } in
+    let watched : Watches → State = λ watches. record { names = old.names; arrays = new.arrays; watches = watches; flows = new.flows } in
+    let flowing : Flows → State = λ flows. record { names = old.names; arrays = new.arrays; watches = old.watches; flows = flows } in
+    ap named g.names ∙ ap watched g.watches ∙ ap flowing g.flows
 
 -- the fault of a first step is that of both
 pub first_fault : {A B : Type 0} (x : Result A Fault) (f : A → Result B Fault) (e : ScopeFault)

@@ -22,9 +22,15 @@ pub mod Advances
 pub mod Dumped
 pub mod Heard
 pub mod Closing
+pub mod Grown
+pub mod Needs
+pub mod Affected
 pub mod Bounded
 pub mod Resting
 pub mod Worked
 pub mod Moved
 pub mod Expressions
 pub mod Moves
+pub mod Formed
+pub mod Endings
+pub mod KeptViews

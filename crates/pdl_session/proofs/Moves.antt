@@ -21,7 +21,7 @@ use Rattle.pdl_machine.specs.Cuts.{dims_given}
 use Rattle.pdl_machine.specs.Names.{Names, number_of}
 use Rattle.pdl_machine.specs.Outcome.{Given as Argument, Valued}
 use Rattle.pdl_machine.specs.State.{AreLive, IsWhole}
-use Rattle.pdl_machine.specs.Step.{behind, target}
+use Rattle.pdl_machine.specs.Step.{behind, target, target_in}
 use Rattle.pdl_machine.specs.Then.{and_then, or_fault}
 use Rattle.pdl_machine.specs.Value.{taken, value_of}
 use Rattle.pdl_machine.specs.Watches.{Watches, attached}
@@ -34,8 +34,8 @@ use Rattle.pdl_session.specs.Arguments.{arguments}
 use Rattle.pdl_session.specs.declared.given.Given.{Given}
 use Rattle.pdl_session.specs.Costs.{EvaluatesWithin, PaysWithin, argued_steps, named_steps, read_all, ready_all}
 use Rattle.pdl_session.specs.Moves.{MovesUpTo, assign_steps, came, cut_steps, reshape_steps, sizes_taken, value_after, value_size, wanted_size}
-use Rattle.pdl_session.proofs.Assigning.{live_behind}
-use Rattle.pdl_session.proofs.Bounded.{grown_seen}
+use Rattle.pdl_session.proofs.Needs.{live_behind}
+use Rattle.pdl_session.proofs.Grown.{grown_seen}
 use Rattle.pdl_session.proofs.Expressions.{read_all_le, read_le_ready}
 use Rattle.pdl_session.proofs.Targets.{called, target_more}
 
@@ -183,11 +183,11 @@ watched_less s t whole g costs =
     (all_less (engine_of s) (engine_of t) (attached s.watches) costs (live_behind s.arrays.world (map (λ n. n.1) s.names.arrays) (attached s.watches) whole.live))
 
 -- an assignment's value comes after its target
-after_target : (s mid : Scope) (place e : Tree) (v : ℕ) → value_of s.names s.arrays place ≡ Ok (mid.arrays, v) → mid.names ≡ s.names → value_after s place e ≡ value_of mid.names mid.arrays e
+after_target : (s mid : Scope) (place e : Tree) (v : ℕ) → target_in (machine s) place ≡ Ok (mid.arrays, v) → mid.names ≡ s.names → value_after s place e ≡ value_of mid.names mid.arrays e
 after_target s mid place e v is same = ap (λ x. and_then x (λ (y : Arrays × ℕ). value_of s.names y.0 e)) is ∙ ap (λ (n : Names). value_of n mid.arrays e) (sym same)
 
 -- what a target that is refused takes
-pub target_left : {U : Type 0} (r : Result U ScopeFault) (f : ScopeFault) (old new : Scope) (place e : Tree) (before after : ℕ) → IsErrAnd r (λ x. x ≡ f) → IsFault (value_of old.names old.arrays place) f
+pub target_left : {U : Type 0} (r : Result U ScopeFault) (f : ScopeFault) (old new : Scope) (place e : Tree) (before after : ℕ) → IsErrAnd r (λ x. x ≡ f) → IsFault (target_in (machine old) place) f
     → EvaluatesWithin (named_steps old place) old new before after (Err f) → MovesUpTo (assign_steps old place e) old (came (value_after old place e) new.arrays.world) before after r
 target_left (Ok x) f old new place e before after is fault h = absurd is
 target_left {U} (Err (Script x)) (Script y) old new place e before after is fault h =
@@ -198,7 +198,7 @@ target_left (Err NoMemory) f old new place e before after is fault h = tt
 
 -- a value that is refused
 pub value_left : {U : Type 0} (r : Result U ScopeFault) (f : ScopeFault) (old mid late : Scope) (place e : Tree) (before now after v : ℕ) → IsErrAnd r (λ x. x ≡ f)
-    → value_of old.names old.arrays place ≡ Ok (mid.arrays, v) → mid.names ≡ old.names → IsFault (value_of mid.names mid.arrays e) f → EvaluatesWithin (named_steps old place) old mid before now (Ok v)
+    → target_in (machine old) place ≡ Ok (mid.arrays, v) → mid.names ≡ old.names → IsFault (value_of mid.names mid.arrays e) f → EvaluatesWithin (named_steps old place) old mid before now (Ok v)
     → named_steps mid e ≤ named_steps old e → EvaluatesWithin (named_steps mid e) mid late now after (Err f) → MovesUpTo (assign_steps old place e) old (came (value_after old place e) late.arrays.world) before after r
 value_left (Ok x) f old mid late place e before now after v is aimed same fault first fewer second = absurd is
 value_left {U} (Err (Script x)) (Script y) old mid late place e before now after v is aimed same fault first fewer second =
@@ -209,7 +209,7 @@ value_left (Err NoMemory) f old mid late place e before now after v is aimed sam
 
 -- both sides came
 pub assigned_within : {U : Type 0} (r : Result U ScopeFault) → OlderStay → (old mid late new : Scope) (place e : Tree) (before now then after v u : ℕ) → IsWhole (machine old) → IsWhole (machine late)
-    → value_of old.names old.arrays place ≡ Ok (mid.arrays, v) → IsLive mid.arrays.world v → value_of mid.names mid.arrays e ≡ Ok (late.arrays, u) → Grows old mid → Grows mid late → Grows old late
+    → target_in (machine old) place ≡ Ok (mid.arrays, v) → IsLive mid.arrays.world v → value_of mid.names mid.arrays e ≡ Ok (late.arrays, u) → Grows old mid → Grows mid late → Grows old late
     → CostsNoMore (engine_of mid) (engine_of late) → CostsNoMore (engine_of old) (engine_of late)
     → EvaluatesWithin (named_steps old place) old mid before now (Ok v) → named_steps mid e ≤ named_steps old e → EvaluatesWithin (named_steps mid e) mid late now then (Ok u)
     → after ≤ then + (read_steps (engine_of late) v + read_steps (engine_of late) u) + sum_by (read_steps (engine_of late)) (attached late.watches) + size_of (dims_in late.arrays.world v)
@@ -217,7 +217,7 @@ pub assigned_within : {U : Type 0} (r : Result U ScopeFault) → OlderStay → (
 assigned_within r older old mid late new place e before now then after v u whole whole_late aimed live valued g h all next costs first fewer second counted =
     let is : value_after old place e ≡ Ok (late.arrays, u) = after_target old mid place e v aimed g.names ∙ valued in
     let sizes : size_of (dims_in late.arrays.world v) ≡ size_of (dims_in mid.arrays.world v) = ap (λ o. size_of (option_map_or (λ (l : Look). l.dims) o [])) (grown_seen older mid.arrays late.arrays v h.arrays whole_late.sound live) in
-    let size : value_size (value_of old.names old.arrays place) ≡ size_of (dims_in mid.arrays.world v) = ap value_size aimed in
+    let size : value_size (target_in (machine old) place) ≡ size_of (dims_in mid.arrays.world v) = ap value_size aimed in
     let watched = watched_less old late whole all costs in
     let a = next.readies v live in
     let b = read_le_ready (engine_of late) v in

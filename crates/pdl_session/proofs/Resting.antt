@@ -7,7 +7,10 @@ use Rattle.pdl_lemmas.specs.Tests.{by_test}
 use Rattle.pdl_shape.specs.Shape.{size_of}
 use Rattle.pdl_buf.specs.declared.made.Made.{Made}
 use Rattle.pdl_world.specs.BaseLaws.{IsShownAsBefore, ReachedKeepBases, SweepsLeaveLooks}
-use Rattle.pdl_world.specs.Laws.{OlderStay}
+use Rattle.pdl_ops.specs.Elementwise.{OpRefusal}
+use Rattle.pdl_flow.specs.Meaning.{meaning}
+use Rattle.pdl_world.specs.Laws.{OlderPathsStay, OlderStay, PathsStay}
+use Rattle.pdl_world.specs.Paths.{path, root_of}
 use Rattle.pdl_world.specs.Sound.{IsLive, IsSound, NumbersBelow}
 use Rattle.pdl_world.specs.Swept.{is_listed, sweep, held_itself}
 use Rattle.pdl_world.specs.SweepLaws.{NewGoesUnheld, ReachedAreSeenAsBefore}
@@ -16,27 +19,33 @@ use Rattle.pdl_world.specs.World.{World, ArrayDef, Look, look, root, dims_in, ha
 use Rattle.pdl_engine.specs.Reading.{IsWarm, KeepsViews, read_steps, view_as}
 use Rattle.pdl_engine.specs.State.{is_fresh}
 use Rattle.pdl_lexemes.specs.declared.AssignOp.{AssignOp}
-use Rattle.pdl_syntax.specs.StatementTree.{StatementTree, View, assign, bind, bind_list, pp_def, reshape, sever, show, show_text, undef, unwatch, vars, watch, dump}
+use Rattle.pdl_syntax.specs.StatementTree.{StatementTree, View, assign, bind, bind_list, pp_def, reshape, sever, show, show_text, undef, unwatch, vars, watch, dump, flow}
 use Rattle.pdl_syntax.specs.Tree.{Tree, number, named, literal, unary, binary, call}
 use Rattle.pdl_machine.specs.declared.fault.Fault.{Fault}
+use Rattle.pdl_machine.specs.declared.fault.Fault.TheVariants.{FlowTarget}
+use Rattle.pdl_machine.specs.Flows.{Flow, Flows, Needs, is_flow}
+use Rattle.pdl_machine.specs.Following.{follow, followed, given}
 use Rattle.pdl_machine.specs.Arrays.{Arrays, array_in, with_new}
 use Rattle.pdl_machine.specs.Dumpable.{IsSpelled}
 use Rattle.pdl_machine.specs.Laws.{AreGrown}
 use Rattle.pdl_machine.specs.Names.{Named, Names, found, number_of}
 use Rattle.pdl_machine.specs.Outcome.{Valued}
-use Rattle.pdl_machine.specs.State.{State, AreLive, IsSwept, IsWhole, held, kept, with_arrays, with_world}
-use Rattle.pdl_machine.specs.Step.{Stepped, assigned, assigning, effect, target}
+use Rattle.pdl_machine.specs.State.{State, AreLive, IsSwept, IsWhole, held, kept, needs, with_arrays, with_world}
+use Rattle.pdl_machine.specs.Step.{Stepped, assigned, assigning, effect, flowed, target_in, unless_flow}
 use Rattle.pdl_machine.specs.Then.{and_then}
-use Rattle.pdl_machine.specs.Tidy.{tidy}
+use Rattle.pdl_machine.specs.Tidy.{settled, tidy}
 use Rattle.pdl_machine.specs.Operators.{values_for}
-use Rattle.pdl_machine.specs.Value.{known, number_made, value_in, value_of}
+use Rattle.pdl_machine.specs.Value.{known, number_made, value_of}
 use Rattle.pdl_machine.specs.Watches.{attached}
 use Rattle.pdl_scope.specs.declared.fault.ScopeFault.{ScopeFault}
 use Rattle.pdl_scope.specs.Answers.{Prints, Runs}
+use Rattle.pdl_scope.specs.Growth.{unread}
 use Rattle.pdl_scope.specs.Scope.{Scope, engine_of, machine, Grows, OnlyReads}
-use Rattle.pdl_session.specs.Bounds.{AssignsPlainly, LeavesReadable, MovesPlainly, PrintsPlainly, RunsInPlace, plain_count, warm_after}
+use Rattle.pdl_session.specs.Bounds.{AssignsPlainly, LeavesReadable, MovesPlainly, PrintsPlainly, RunsInPlace, is_read_from, plain_count, warm_after}
 use Rattle.pdl_session.specs.Session.{IsAsBefore, IsAtRest, IsKeptWarm}
-use Rattle.pdl_session.proofs.Bounded.{grown_look}
+use Rattle.pdl_session.proofs.Facts.{state_is}
+use Rattle.pdl_session.proofs.Grown.{grown_look}
+use Rattle.pdl_session.proofs.Needs.{HaveSamePaths, grown_paths, held_needed, held_past, needs_same, whole_needs_live}
 
 -- each array of a list of live ones is live
 live_held : (w : World) (vs : List ℕ) (v : ℕ) → AreLive w vs → is_listed vs v ≡ true → IsLive w v
@@ -44,10 +53,6 @@ live_held w [] v live h = cc
 live_held w (u ∷ vs) v live h = by_test (u == v)
     (λ is. subst (IsLive w) (eqb-true u v is) live.0)
     (λ other. live_held w vs v live.1 (rw other at h))
-
--- what is held is held among more
-held_past : (u v : ℕ) (vs : List ℕ) → is_listed vs v ≡ true → is_listed (u ∷ vs) v ≡ true
-held_past u v vs h = by_test (u == v) (λ is. rw is refl) (λ other. rw other h)
 
 -- the array of a name is held
 found_held : (names : Named ℕ) (more : List ℕ) (x : List ℕ) → IfSome (found names x) (λ v. is_listed (map (λ n. n.1) names ++ more) v ≡ true)
@@ -81,6 +86,8 @@ swept_grown goes older old new vs grown sound live =
 pub record Laws : Type 0 where
   pub goes : NewGoesUnheld
   pub older : OlderStay
+  pub paths : OlderPathsStay
+  pub assigned_paths : PathsStay
   pub bases : ReachedKeepBases
   pub seen : ReachedAreSeenAsBefore
   pub assigned : SweepsLeaveLooks
@@ -90,107 +97,141 @@ pub record LetsGo (old mid new : Scope) : Type 0 where
   pub whole : IsWhole (machine old)
   pub swept : IsSwept (machine old)
   pub ran : IsWhole (machine mid)
-  pub gone : machine new ≡ with_world (machine mid) (kept (machine mid))
+  pub gone : machine new ≡ with_world (settled (machine mid)) (kept (machine mid))
   pub stay : (v : ℕ) → IsLive new.arrays.world v → is_fresh (engine_of mid) v ≡ true → is_fresh (engine_of new) v ≡ true
 
 world_is : (old mid new : Scope) → LetsGo old mid new → new.arrays.world ≡ kept (machine mid)
 world_is old mid new h = ap (λ (s : State). s.arrays.world) h.gone
 
--- where only new arrays came, the arrays of before are left
+-- where only new arrays came, the same is needed
+grown_needs : Laws → (old mid new : Scope) → LetsGo old mid new → Grows old mid → needs (machine mid) ≡ needs (machine old)
+grown_needs laws old mid new h grown =
+    ap needs (state_is old mid grown)
+    ∙ needs_same old.arrays.world mid.arrays.world old.flows (held (machine old))
+    (grown_paths laws.older laws.paths old.arrays mid.arrays (needs (machine old)).arrays grown.arrays h.ran.sound (whole_needs_live (machine old) h.whole))
+
+-- and the arrays of before are left
 pub grown_back : Laws → (old mid new : Scope) → LetsGo old mid new → Grows old mid → new.arrays.world ≡ old.arrays.world
 grown_back laws old mid new h grown =
-    let vs = held (machine old) in
     world_is old mid new h
-    ∙ ap (λ (names : Names). sweep mid.arrays.world (map (λ n. n.1) names.arrays ++ attached mid.watches)) grown.names
-    ∙ ap (λ ws. sweep mid.arrays.world (map (λ n. n.1) old.names.arrays ++ attached ws)) grown.watches
-    ∙ swept_grown laws.goes laws.older old.arrays mid.arrays vs grown.arrays h.ran.sound h.whole.live
-    ∙ h.swept
+    ∙ ap (λ (n : Needs). sweep mid.arrays.world n.arrays) (grown_needs laws old mid new h grown)
+    ∙ swept_grown laws.goes laws.older old.arrays mid.arrays (needs (machine old)).arrays grown.arrays h.ran.sound (whole_needs_live (machine old) h.whole)
+    ∙ h.swept.arrays
 
 -- so where arrays were read
 pub reads_back : Laws → (old mid new : Scope) → LetsGo old mid new → OnlyReads old mid → new.arrays.world ≡ old.arrays.world
-reads_back laws old mid new h reads =
-    world_is old mid new h
-    ∙ ap (λ (names : Names). sweep mid.arrays.world (map (λ n. n.1) names.arrays ++ attached mid.watches)) reads.names
-    ∙ ap (λ ws. sweep mid.arrays.world (map (λ n. n.1) old.names.arrays ++ attached ws)) reads.watches
-    ∙ ap (λ (a : Arrays). sweep a.world (held (machine old))) reads.arrays
-    ∙ h.swept
+reads_back laws old mid new h reads = world_is old mid new h ∙ ap kept (unread old mid reads) ∙ h.swept.arrays
 
--- a root was made, and values were assigned
-record IsWritten (s new : State) : Type 0 where
-  d : ArrayDef
-  v : ℕ
-  values : List ℤ
-  after : Arrays
-  world : after.world ≡ assign_in ((s.arrays.next, d) ∷ s.arrays.world) v values
-  is : new ≡ with_arrays s after
+-- The arrays have the same paths, and are seen alike after every sweep, whatever their elements are.
+record IsSeenAlike (w z : World) : Type 0 where
+  looks : (held : List ℕ) (u : ℕ) → look (sweep z held) u ≡ look (sweep w held) u
+  paths : (u : ℕ) → path z u ≡ path w u
 
-values_written : (s new : State) (a : Arrays) (d : ArrayDef) (v : ℕ) (o n : List ℕ) (r : Result (List ℤ) Fault) → a.world ≡ (s.arrays.next, d) ∷ s.arrays.world
-    → Prints (and_then (and_then r (λ values. Ok (record a { world = assign_in a.world v values }))) (λ b. Ok (with_arrays s b, []))) new o n → IsWritten s new
-values_written s new a d v o n (Err e) is h = absurd h
-values_written s new a d v o n (Ok values) is h = record {
-  d = d;
-  v = v;
-  values = values;
-  after = record a { world = assign_in a.world v values };
-  world = ap (λ w. assign_in w v values) is;
-  is = h.0;
+alike_itself : (w : World) → IsSeenAlike w w
+alike_itself w = record { looks = λ held u. refl; paths = λ u. refl }
+
+alike_assigned : Laws → (w z : World) (v : ℕ) (values : List ℤ) → IsSeenAlike w z → IsSeenAlike w (assign_in z v values)
+alike_assigned laws w z v values h = record {
+  looks = λ held u. laws.assigned z v u values held ∙ h.looks held u;
+  paths = λ u. laws.assigned_paths z v u values ∙ h.paths u;
 }
 
+-- so after flows followed
+alike_given : Laws → (w : World) (a : Arrays) (r : ℕ) (x : Result Made OpRefusal) → IsSeenAlike w a.world → IsSeenAlike w (given a r x).world
+alike_given laws w a r (Ok m) h = alike_assigned laws w a.world r m.elems h
+alike_given laws w a r (Err refusal) h = h
+
+alike_followed : Laws → (w : World) (a : Arrays) (flows : Flows) → IsSeenAlike w a.world → IsSeenAlike w (followed a flows).world
+alike_followed laws w a [] h = h
+alike_followed laws w a (f ∷ flows) h = alike_followed laws w (follow a f) flows (alike_given laws w a f.root (meaning (array_in a) f.formula) h)
+
+-- a root was made, values were assigned, and flows followed
+record IsWritten (s new : State) : Type 0 where
+  d : ArrayDef
+  after : Arrays
+  alike : IsSeenAlike ((s.arrays.next, d) ∷ s.arrays.world) after.world
+  is : new ≡ with_arrays s after
+
+values_written : Laws → (s new : State) (a : Arrays) (d : ArrayDef) (v : ℕ) (o n : List ℕ) (r : Result (List ℤ) Fault) → a.world ≡ (s.arrays.next, d) ∷ s.arrays.world
+    → Prints (and_then (and_then r (λ values. Ok (record a { world = assign_in a.world v values }))) (λ b. Ok (flowed (with_arrays s b), []))) new o n → IsWritten s new
+values_written laws s new a d v o n (Err e) is h = absurd h
+values_written laws s new a d v o n (Ok values) is h =
+    let b : Arrays = record a { world = assign_in a.world v values } in
+    let w : World = (s.arrays.next, d) ∷ s.arrays.world in
+    let begun : IsSeenAlike w b.world = alike_assigned laws w a.world v values (subst (IsSeenAlike w) (sym is) (alike_itself w)) in
+    record { d = d; after = followed b s.flows; alike = alike_followed laws w b s.flows begun; is = h.0 }
+
 -- of the arrays after the root, whatever it is
-root_written : (s new : State) (d : ArrayDef) (v : ℕ) (sign : AssignOp) (o n : List ℕ) → Prints (and_then (assigned sign (with_new s.arrays d).0 v s.arrays.next) (λ a. Ok (with_arrays s a, []))) new o n → IsWritten s new
-root_written s new d v sign o n h =
+root_written : Laws → (s new : State) (d : ArrayDef) (v : ℕ) (sign : AssignOp) (o n : List ℕ) → Prints (and_then (assigned sign (with_new s.arrays d).0 v s.arrays.next) (λ a. Ok (flowed (with_arrays s a), []))) new o n → IsWritten s new
+root_written laws s new d v sign o n h =
     let a = (with_new s.arrays d).0 in
-    values_written s new a d v o n (values_for sign (array_in a v) (array_in a s.arrays.next)) refl h
+    values_written laws s new a d v o n (values_for sign (array_in a v) (array_in a s.arrays.next)) refl h
 
 -- what is written where the right side is a number or a list
-written : (s new : State) (x : List ℕ) (sign : AssignOp) (e : Tree) (count : ℕ) (o n : List ℕ) → plain_count e ≡ Some count → Prints (assigning s (named x) sign e) new o n → IsWritten s new
-written s new x sign e count o n plain h = by_name (number_of s.names x) e plain h
+abbrev after_target : State → AssignOp → Tree → Valued → Stepped
+after_target s sign e x = and_then x (λ v. and_then (value_of s.names v.0 e) (λ u. and_then (assigned sign u.0 v.1 u.1) (λ a. Ok (flowed (with_arrays s a), []))))
+
+written : Laws → (s new : State) (x : List ℕ) (sign : AssignOp) (e : Tree) (count : ℕ) (o n : List ℕ) → plain_count e ≡ Some count → Prints (assigning s (named x) sign e) new o n → IsWritten s new
+written laws s new x sign e count o n plain h = by_name (number_of s.names x) h
   where
-    by_name : (b : Option ℕ) (e : Tree) → plain_count e ≡ Some count
-        → Prints (and_then (known s.arrays b) (λ v. and_then (value_of s.names v.0 e) (λ u. and_then (assigned sign u.0 v.1 u.1) (λ a. Ok (with_arrays s a, []))))) new o n → IsWritten s new
-    by_name None e plain h = absurd h
-    by_name (Some v) (number k) plain h = root_written s new (root (number_made k).ty [] (k ∷ [])) v sign o n h
-    by_name (Some v) (literal ty ds es) plain h = root_written s new (root ty ds es) v sign o n h
-    by_name (Some v) (named y) plain h = absurd (cc)
-    by_name (Some v) (unary op f) plain h = absurd (cc)
-    by_name (Some v) (binary op f g) plain h = absurd (cc)
-    by_name (Some v) (call f args) plain h = absurd (cc)
+    by_value : (v : ℕ) (e : Tree) → plain_count e ≡ Some count → Prints (after_target s sign e (Ok (s.arrays, v))) new o n → IsWritten s new
+    by_value v (number k) plain h = root_written laws s new (root (number_made k).ty [] (k ∷ [])) v sign o n h
+    by_value v (literal ty ds es) plain h = root_written laws s new (root ty ds es) v sign o n h
+    by_value v (named y) plain h = absurd (cc)
+    by_value v (unary op f) plain h = absurd (cc)
+    by_value v (binary op f g) plain h = absurd (cc)
+    by_value v (call f args) plain h = absurd (cc)
+
+    by_flow : (v : ℕ) (flowing : Bool) → Prints (after_target s sign e (if flowing then Err FlowTarget else Ok (s.arrays, v))) new o n → IsWritten s new
+    by_flow v true h = absurd h
+    by_flow v false h = by_value v e plain h
+
+    by_name : (b : Option ℕ) → Prints (after_target s sign e (and_then (known s.arrays b) (unless_flow s.flows))) new o n → IsWritten s new
+    by_name None h = absurd h
+    by_name (Some v) h = by_flow v (is_flow s.flows (root_of s.arrays.world v)) h
 
 -- what is seen then is what was seen before, once the root is let go
 written_back : Laws → (old mid new : Scope) (u : ℕ) → LetsGo old mid new → IsWritten (machine old) (machine mid) → look new.arrays.world u ≡ look old.arrays.world u
 written_back laws old mid new u h w =
-    let vs = held (machine old) in
+    let vs = (needs (machine old)).arrays in
     let first = (old.arrays.next, w.d) ∷ old.arrays.world in
+    let live = whole_needs_live (machine old) h.whole in
     ap (λ z. look z u) (world_is old mid new h)
     ∙ ap (λ s. look (kept s) u) w.is
-    ∙ ap (λ z. look (sweep z vs) u) w.world
-    ∙ laws.assigned first w.v u w.values vs
-    ∙ ap (λ z. look z u) (laws.goes old.arrays.world old.arrays.next w.d vs h.whole.below (λ v held. live_held old.arrays.world vs v h.whole.live held) ∙ h.swept)
+    ∙ ap (λ (n : Needs). look (sweep w.after.world n.arrays) u) (needs_same old.arrays.world w.after.world old.flows (held (machine old)) (paths_back laws old w.d w.after.world h.whole w.alike vs live))
+    ∙ w.alike.looks vs u
+    ∙ ap (λ z. look z u) (laws.goes old.arrays.world old.arrays.next w.d vs h.whole.below (λ v held. live_held old.arrays.world vs v live held) ∙ h.swept.arrays)
+  where
+    paths_back : Laws → (s : Scope) (d : ArrayDef) (z : World) → IsWhole (machine s) → IsSeenAlike ((s.arrays.next, d) ∷ s.arrays.world) z → (vs : List ℕ) → AreLive s.arrays.world vs → HaveSamePaths s.arrays.world z vs
+    paths_back laws s d z whole alike [] live = tt
+    paths_back laws s d z whole alike (v ∷ vs) live =
+        (alike.paths v ∙ laws.paths s.arrays.world s.arrays.next v d whole.below live.0, paths_back laws s d z whole alike vs live.1)
 
 -- an assignment leaves names, and watches
 assigned_names : (s new : State) (to : Tree) (sign : AssignOp) (e : Tree) (o n : List ℕ) → Prints (assigning s to sign e) new o n → new.names ≡ s.names
-assigned_names s new to sign e o n h = by_target (value_in s to) h
+assigned_names s new to sign e o n h = by_target (target_in s to) h
   where
-    by_target : (t : Valued) → Prints (and_then t (λ v. and_then (value_of s.names v.0 e) (λ u. and_then (assigned sign u.0 v.1 u.1) (λ a. Ok (with_arrays s a, []))))) new o n → new.names ≡ s.names
+    by_values : (t : Result Arrays Fault) → Prints (and_then t (λ a. Ok (flowed (with_arrays s a), []))) new o n → new.names ≡ s.names
+    by_values (Err f) h = absurd h
+    by_values (Ok a) h = ap (λ (t : State). t.names) h.0
+
+    by_value : (v : ℕ) (t : Valued) → Prints (and_then t (λ u. and_then (assigned sign u.0 v u.1) (λ a. Ok (flowed (with_arrays s a), [])))) new o n → new.names ≡ s.names
+    by_value v (Err f) h = absurd h
+    by_value v (Ok u) h = by_values (assigned sign u.0 v u.1) h
+
+    by_target : (t : Valued) → Prints (after_target s sign e t) new o n → new.names ≡ s.names
     by_target (Err f) h = absurd h
-    by_target (Ok v) h = by_value (value_of s.names v.0 e) h
-      where
-        by_value : (t : Valued) → Prints (and_then t (λ u. and_then (assigned sign u.0 v.1 u.1) (λ a. Ok (with_arrays s a, [])))) new o n → new.names ≡ s.names
-        by_value (Err f) h = absurd h
-        by_value (Ok u) h = by_values (assigned sign u.0 v.1 u.1) h
-          where
-            by_values : (t : Result Arrays Fault) → Prints (and_then t (λ a. Ok (with_arrays s a, []))) new o n → new.names ≡ s.names
-            by_values (Err f) h = absurd h
-            by_values (Ok a) h = ap (λ (t : State). t.names) h.0
+    by_target (Ok v) h = by_value v.1 (value_of s.names v.0 e) h
 
 -- an array that is held stays warm
 warm_held : Laws → (old mid new : Scope) (v : ℕ) → LetsGo old mid new → is_listed (held (machine mid)) v ≡ true → IsWarm (engine_of mid) v → IsKeptWarm new v
 warm_held laws old mid new v h is warm =
-    let vs = held (machine mid) in
+    let vs = (needs (machine mid)).arrays in
     let w = mid.arrays.world in
-    let live : IsLive w v = live_held w vs v h.ran.live is in
-    let there : IsLive (sweep w vs) v = subst (λ o. IsSomeAnd o (λ l. Unit {0})) (sym (laws.seen w vs v h.ran.sound (held_itself v is)).look_is) live in
-    let kept : IsShownAsBefore w (sweep w vs) v = laws.bases w vs v h.ran.sound (held_itself v is) in
+    let needed : is_listed vs v ≡ true = held_needed w mid.flows (held (machine mid)) v is in
+    let live : IsLive w v = live_held w (held (machine mid)) v h.ran.live is in
+    let there : IsLive (sweep w vs) v = subst (λ o. IsSomeAnd o (λ l. Unit {0})) (sym (laws.seen w vs v h.ran.sound (held_itself v needed)).look_is) live in
+    let kept : IsShownAsBefore w (sweep w vs) v = laws.bases w vs v h.ran.sound (held_itself v needed) in
     let left : IsLive new.arrays.world v = subst (λ z. IsLive z v) (sym (world_is old mid new h)) there in
     let same : places_in new.arrays.world (base new.arrays.world v) ≡ places_in w (base w v) =
     ap (λ z. places_in z (base z v)) (world_is old mid new h) ∙ ap (places_in (sweep w vs)) kept.base_is ∙ ap (λ o. option_map_or (λ (l : Look). l.places) o []) kept.base_look_is in
@@ -216,6 +257,7 @@ assigned_warm laws present (reshape x sizes) old mid new o n h ran readable = tt
 assigned_warm laws present (undef x) old mid new o n h ran readable = tt
 assigned_warm laws present vars old mid new o n h ran readable = tt
 assigned_warm laws present dump old mid new o n h ran readable = tt
+assigned_warm laws present (flow x e) old mid new o n h ran readable = tt
 assigned_warm laws present (pp_def f s c) old mid new o n h ran readable = tt
 assigned_warm laws present (watch x k) old mid new o n h ran readable = tt
 assigned_warm laws present (unwatch k) old mid new o n h ran readable = tt
@@ -238,6 +280,7 @@ as_before laws (Err f) wanted old mid new o n h ran =
       names = ap (λ (s : State). s.names) h.gone ∙ grown.names;
       world = back;
       watches = ap (λ (s : State). s.watches) h.gone ∙ grown.watches;
+      flows = ap (λ (s : State). s.flows) h.gone ∙ ap (λ (m : Needs). m.flows) (grown_needs laws old mid new h grown) ∙ h.swept.flows;
       lent = λ v live fresh. h.stay v (subst (λ z. IsLive z v) (sym back) live) (grown.stay v fresh);
     }
 
@@ -272,6 +315,7 @@ left_readable laws present (reshape x sizes) old mid new before after o n h ran 
 left_readable laws present (undef x) old mid new before after o n h ran moves readable = tt
 left_readable laws present vars old mid new before after o n h ran moves readable = tt
 left_readable laws present dump old mid new before after o n h ran moves readable = tt
+left_readable laws present (flow x e) old mid new before after o n h ran moves readable = tt
 left_readable laws present (pp_def f s c) old mid new before after o n h ran moves readable = tt
 left_readable laws present (watch x k) old mid new before after o n h ran moves readable = tt
 left_readable laws present (unwatch k) old mid new before after o n h ran moves readable = tt
@@ -280,7 +324,7 @@ left_readable laws present (unwatch k) old mid new before after o n h ran moves 
 seen_back : {T : Type 0} → Laws → (present : List Bool) (r : Result T ScopeFault) (x : List ℕ) (sign : AssignOp) (e : Tree) (count u : ℕ) (old mid new : Scope) (o n : List ℕ) → LetsGo old mid new → plain_count e ≡ Some count
     → Runs (effect present (machine old) (assign x [] sign e)) old mid o n r → look new.arrays.world u ≡ look old.arrays.world u
 seen_back laws present (Ok t) x sign e count u old mid new o n h plain ran =
-    written_back laws old mid new u h (written (machine old) (machine mid) x sign e count o n plain ran)
+    written_back laws old mid new u h (written laws (machine old) (machine mid) x sign e count o n plain ran)
 seen_back laws present (Err f) x sign e count u old mid new o n h plain ran =
     ap (λ z. look z u) (grown_back laws old mid new h ran.1.grown)
 
@@ -288,13 +332,13 @@ seen_back laws present (Err f) x sign e count u old mid new o n h plain ran =
 pub again : {T : Type 0} → Laws → (present : List Bool) (r : Result T ScopeFault) (st : StatementTree) (warm : Option ℕ) (old mid new : Scope) (before now after : ℕ) (o n : List ℕ) → LetsGo old mid new
     → IfSome warm (IsKeptWarm old) → Runs (effect present (machine old) st) old mid o n r → MovesPlainly st old mid before now → (KeepsViews mid.arrays.world new.arrays.world → after ≡ now)
     → (x : List ℕ) (sign : AssignOp) (e : Tree) (v count : ℕ) → st ≡ assign x [] sign e → plain_count e ≡ Some count → number_of old.names x ≡ Some v → warm ≡ Some v
-    → has_repeats (places_in old.arrays.world (base old.arrays.world v)) ≡ false → attached old.watches ≡ []
+    → has_repeats (places_in old.arrays.world (base old.arrays.world v)) ≡ false → attached old.watches ≡ [] → is_read_from old v ≡ false
     → after ≤ before + (size_of (dims_in old.arrays.world v) + count)
-again laws present r st warm old mid new before now after o n h rest ran moves let_go x sign e v count is plain bound warm_is none unwatched =
+again laws present r st warm old mid new before now after o n h rest ran moves let_go x sign e v count is plain bound warm_is none unwatched unread =
     let m : IfSome (plain_count e) (λ k. AssignsPlainly x k old mid before now) = subst (λ s. MovesPlainly s old mid before now) is moves in
     let a : AssignsPlainly x count old mid before now = subst (λ b. IfSome b (λ k. AssignsPlainly x k old mid before now)) plain m in
     let at : IsKeptWarm old v = subst (λ b. IfSome b (IsKeptWarm old)) warm_is rest in
-    let moved : now ≤ before + (size_of (dims_in old.arrays.world v) + count) = a.counted v bound (at.1 none) unwatched in
+    let moved : now ≤ before + (size_of (dims_in old.arrays.world v) + count) = a.counted v bound (at.1 none) unwatched unread in
     let runs : Runs (effect present (machine old) (assign x [] sign e)) old mid o n r = subst (λ s. Runs (effect present (machine old) s) old mid o n r) is ran in
     let keeps : KeepsViews mid.arrays.world new.arrays.world = λ u view.
     view_as old.arrays.world new.arrays.world u (sym (seen_back laws present r x sign e count u old mid new o n h plain runs)) (a.roots u view) in
@@ -312,14 +356,14 @@ shown laws st old mid new before now after h moves let_go x v is bound =
     omega (arith, moved, same)
 
 -- what ran in place
-pub in_place : {T : Type 0} (present : List Bool) (r : Result T ScopeFault) (st : StatementTree) (old mid new : Scope) (o n : List ℕ) → machine new ≡ with_world (machine mid) (kept (machine mid))
+pub in_place : {T : Type 0} (present : List Bool) (r : Result T ScopeFault) (st : StatementTree) (old mid new : Scope) (o n : List ℕ) → machine new ≡ with_world (settled (machine mid)) (kept (machine mid))
     → Runs (effect present (machine old) st) old mid o n r → OnOk r (RunsInPlace present old st new)
 in_place present (Err f) st old mid new o n gone ran = tt
 in_place present (Ok t) st old mid new o n gone ran = by_effect (effect present (machine old) st) refl ran
   where
     by_effect : (x : Stepped) → effect present (machine old) st ≡ x → Prints x (machine mid) o n → RunsInPlace present old st new
     by_effect (Err f) is prints = absurd prints
-    by_effect (Ok after) is prints = record { after = after; is = is; left = gone ∙ ap (λ s. with_world s (kept s)) prints.0 }
+    by_effect (Ok after) is prints = record { after = after; is = is; left = gone ∙ ap (λ (s : State). with_world (settled s) (kept s)) prints.0 }
 
 -- what a session keeps after a statement
 pub at_rest : {T : Type 0} → Laws → (present : List Bool) (r : Result T ScopeFault) (st : StatementTree) (warm assigned now : Option ℕ) (old mid new : Scope) (o n : List ℕ) → LetsGo old mid new → IsSwept (machine new) → IsSpelled (tidy (machine new)) → IfSome warm (IsKeptWarm old)

@@ -17,7 +17,7 @@ use Rattle.pdl_machine.specs.Calls.{Callee, callee_of, several, value_by, call_v
 use Rattle.pdl_machine.specs.Value.{value_of, taken}
 use Rattle.pdl_machine.specs.Tidy.{tidy}
 use Rattle.pdl_machine.specs.Laws.{NewArraysUnseen}
-use Rattle.pdl_machine.specs.Step.{Stepped, bind_value, bound, roots_bound, outputs_bound, list_bound, assigned, assigning, effect}
+use Rattle.pdl_machine.specs.Step.{Stepped, bind_value, bound, roots_bound, outputs_bound, list_bound, assigned, assigning, effect, flowed, target_in}
 use Rattle.pdl_scope.specs.declared.fault.ScopeFault.{ScopeFault}
 use Rattle.pdl_session.specs.declared.given.Given.{Given}
 use Rattle.pdl_session.specs.Arguments.{arguments, all_seen_of}
@@ -27,6 +27,7 @@ use Rattle.pdl_print.specs.Pieces.{Begins}
 use Rattle.pdl_session.specs.Performed.{Performs}
 use Rattle.pdl_scope.specs.Growth.{grows_trans, unread, reads_grow}
 use Rattle.pdl_session.proofs.Facts.{first_fault, state_is}
+use Rattle.pdl_session.proofs.Needs.{read_live}
 
 -- a statement that goes on from where new arrays came
 pub runs_from : {T : Type 0} (r : Result T ScopeFault) (x y : Stepped) (old mid new : Scope) (o n : List ℕ) → y ≡ x → Grows old mid → Runs x mid new o n r → Runs y old new o n r
@@ -120,29 +121,34 @@ pub list_refused : (old : State) (xs : List (List ℕ)) (tree : Tree) (f : List 
 list_refused old xs tree f args e is h = subst (λ x. IsFault (effect [] old (bind_list xs x)) e) (sym is) (first_fault (taken old.names old.arrays args) (list_bound old xs f) e h)
 
 -- an assignment, after its target and its right side came
-pub runs_assigned : {T : Type 0} (r : Result T ScopeFault) (old mid late new : Scope) (to e : Tree) (sign : AssignOp) (v u : ℕ) → value_of old.names old.arrays to ≡ Ok (mid.arrays, v) → value_of mid.names mid.arrays e ≡ Ok (late.arrays, u)
-    → Grows old mid → Grows mid late → Runs (and_then (assigned sign late.arrays v u) (λ a. Ok (with_arrays (machine late) a, []))) late new [] [] r → Runs (assigning (machine old) to sign e) old new [] [] r
+abbrev written_to : Scope → State → AssignOp → (v u : ℕ) → Stepped
+written_to late s sign v u = and_then (assigned sign late.arrays v u) (λ a. Ok (flowed (with_arrays s a), []))
+
+abbrev from_value : State → AssignOp → (v : ℕ) → Valued → Stepped
+from_value s sign v x = and_then x (λ u. and_then (assigned sign u.0 v u.1) (λ a. Ok (flowed (with_arrays s a), [])))
+
+abbrev from_target : State → AssignOp → Tree → Valued → Stepped
+from_target s sign e x = and_then x (λ w. from_value s sign w.1 (value_of s.names w.0 e))
+
+pub runs_assigned : {T : Type 0} (r : Result T ScopeFault) (old mid late new : Scope) (to e : Tree) (sign : AssignOp) (v u : ℕ) → target_in (machine old) to ≡ Ok (mid.arrays, v) → value_of mid.names mid.arrays e ≡ Ok (late.arrays, u)
+    → Grows old mid → Grows mid late → Runs (written_to late (machine late) sign v u) late new [] [] r → Runs (assigning (machine old) to sign e) old new [] [] r
 runs_assigned r old mid late new to e sign v u target_is value_is g h ran =
     let value : Names → Valued = λ names. value_of names mid.arrays e in
-    let from_value : Valued → Stepped = λ x. and_then x (λ u. and_then (assigned sign u.0 v u.1) (λ a. Ok (with_arrays (machine old) a, []))) in
-    let from_target : Valued → Stepped = λ x. and_then x (λ w. and_then (value_of old.names w.0 e) (λ u. and_then (assigned sign u.0 w.1 u.1) (λ a. Ok (with_arrays (machine old) a, [])))) in
-    let written : State → Stepped = λ s. and_then (assigned sign late.arrays v u) (λ a. Ok (with_arrays s a, [])) in
-    let is : assigning (machine old) to sign e ≡ and_then (assigned sign late.arrays v u) (λ a. Ok (with_arrays (machine late) a, [])) =
-    ap from_target target_is ∙ ap from_value (ap value (sym g.names) ∙ value_is) ∙ ap written (sym (state_is old late (grows_trans old mid late g h))) in
-    runs_from r (and_then (assigned sign late.arrays v u) (λ a. Ok (with_arrays (machine late) a, []))) (assigning (machine old) to sign e) old late new [] [] is (grows_trans old mid late g h) ran
+    let is : assigning (machine old) to sign e ≡ written_to late (machine late) sign v u =
+    ap (from_target (machine old) sign e) target_is ∙ ap (from_value (machine old) sign v) (ap value (sym g.names) ∙ value_is) ∙ ap (λ (s : State). written_to late s sign v u) (sym (state_is old late (grows_trans old mid late g h))) in
+    runs_from r (written_to late (machine late) sign v u) (assigning (machine old) to sign e) old late new [] [] is (grows_trans old mid late g h) ran
 
-pub assigned_refused : (old mid : Scope) (to e : Tree) (sign : AssignOp) (v : ℕ) (f : ScopeFault) → value_of old.names old.arrays to ≡ Ok (mid.arrays, v) → IsFault (value_of mid.names mid.arrays e) f → Grows old mid
+pub assigned_refused : (old mid : Scope) (to e : Tree) (sign : AssignOp) (v : ℕ) (f : ScopeFault) → target_in (machine old) to ≡ Ok (mid.arrays, v) → IsFault (value_of mid.names mid.arrays e) f → Grows old mid
     → IsFault (assigning (machine old) to sign e) f
 assigned_refused old mid to e sign v f target_is refused g =
-    let from_target : Valued → Stepped = λ x. and_then x (λ w. and_then (value_of old.names w.0 e) (λ u. and_then (assigned sign u.0 w.1 u.1) (λ a. Ok (with_arrays (machine old) a, [])))) in
-    subst (λ x. IsFault x f) (sym (ap from_target target_is)) (first_fault (value_of old.names mid.arrays e) (λ u. and_then (assigned sign u.0 v u.1) (λ a. Ok (with_arrays (machine old) a, []))) f (subst (λ (names : Names). IsFault (value_of names mid.arrays e) f) g.names refused))
+    subst (λ x. IsFault x f) (sym (ap (from_target (machine old) sign e) target_is)) (first_fault (value_of old.names mid.arrays e) (λ u. and_then (assigned sign u.0 v u.1) (λ a. Ok (flowed (with_arrays (machine old) a), []))) f (subst (λ (names : Names). IsFault (value_of names mid.arrays e) f) g.names refused))
 
 -- what a session is seen as stays where a statement is refused
 pub kept_seen : {T : Type 0} (r : Result T ScopeFault) (x : Stepped) (old new : Scope) (left seen : State) (o n : List ℕ) → NewArraysUnseen → IsWhole (machine old) → IsWhole (machine new) → tidy left ≡ tidy (machine new) → tidy (machine old) ≡ seen → Runs x old new o n r
     → OnErr r (tidy left ≡ seen)
 kept_seen (Ok u) x old new left seen o n unseen whole after gone is h = tt
 kept_seen (Err e) x old new left seen o n unseen whole after gone is h =
-    gone ∙ ap tidy (state_is old new h.1.grown) ∙ unseen (machine old) new.arrays h.1.grown.arrays after.sound whole.live ∙ is
+    gone ∙ ap tidy (state_is old new h.1.grown) ∙ unseen (machine old) new.arrays h.1.grown.arrays after.sound whole.live (read_live old.arrays old.flows whole.flows) ∙ is
 
 -- what a refused statement printed is cut back
 pub cut_front : (front text : List ℕ) → Begins front text → take (length front) text ≡ front

@@ -1,6 +1,6 @@
 -- A target is read as its views, one after another.
 use Rattle.std.proofs.Common.{◌≡◌, ℕ, ◌+◌, ◌<◌, List, [], ◌∷◌, ◌++◌, length, take, drop, Ok, Err, refl, sym, ap, ◌∙◌}
-use Rattle.std.specs.Prelude.{fold, map, slice_index_or}
+use Rattle.std.specs.Prelude.{fold, map, slice_index_or, Bool, if◌then◌else◌}
 use Rattle.std.proofs.lemmas.List.{take_more, take-append-drop, map-append}
 use Rattle.std.proofs.lemmas.List.Sums.{fold-append}
 use Rattle.pdl_syntax.specs.declared.tree.Arg.{Arg, Value, Str, OfType}
@@ -9,9 +9,12 @@ use Rattle.pdl_syntax.specs.Tree.{Tree, Args, named, call, none, value, text, of
 use Rattle.pdl_syntax.specs.TreeOf.{args_of}
 use Rattle.pdl_syntax.specs.StatementTree.{View, view_of}
 use Rattle.pdl_machine.specs.declared.fault.Fault.{Fault}
+use Rattle.pdl_machine.specs.declared.fault.Fault.TheVariants.{FlowTarget}
 use Rattle.pdl_machine.specs.Names.{Names}
 use Rattle.pdl_machine.specs.Arrays.{Arrays}
-use Rattle.pdl_machine.specs.Step.{behind, target}
+use Rattle.pdl_machine.specs.Flows.{Flows, is_flow}
+use Rattle.pdl_machine.specs.Step.{behind, target, target_in, unless_flow}
+use Rattle.pdl_machine.specs.Then.{and_then}
 use Rattle.pdl_machine.specs.Value.{value_of, taken}
 use Rattle.pdl_session.specs.declared.given.Given.{Given}
 use Rattle.pdl_session.specs.declared.given.Given.TheVariants.{Array}
@@ -20,6 +23,8 @@ use Rattle.pdl_session.proofs.Evals.{with_given}
 use Rattle.pdl_scope.specs.declared.fault.ScopeFault.{ScopeFault}
 use Rattle.pdl_scope.specs.declared.fault.ScopeFault.TheVariants.{Script, NoMemory}
 use Rattle.pdl_scope.specs.Answers.{IsFault}
+use Rattle.pdl_scope.specs.Scope.{Scope, machine, Grows}
+use Rattle.pdl_world.specs.Paths.{root_of}
 
 -- arguments behind a first one are those after it
 pub behind_args : (e : Tree) (args : List Arg) (front : Args) → behind e (args_of args front) ≡ args_of args (behind e front)
@@ -63,3 +68,11 @@ fault_at names a x views i (Script f) h =
 -- the array that a tree gave is its view's first argument
 pub first_taken : (names : Names) (a b : Arrays) (e : Tree) (v : ℕ) (given : List Given) → value_of names a e ≡ Ok (b, v) → given ≡ Array v ∷ [] → taken names a (value none e) ≡ Ok (b, arguments given)
 first_taken names a b e v given h g = rw h (ap (λ gs. with_given b (arguments gs)) (sym g))
+
+-- a target's array is assigned to unless its root is a flow's
+pub aimed_at : (old mid : Scope) (to : Tree) (v : ℕ) (flowing : Bool) → value_of old.names old.arrays to ≡ Ok (mid.arrays, v) → Grows old mid → is_flow mid.flows (root_of mid.arrays.world v) ≡ flowing
+    → target_in (machine old) to ≡ (if flowing then Err FlowTarget else Ok (mid.arrays, v))
+aimed_at old mid to v flowing is g flows =
+    ap (λ x. and_then x (unless_flow old.flows)) is
+    ∙ ap (λ (fs : Flows). unless_flow fs (mid.arrays, v)) (sym g.flows)
+    ∙ ap (λ (b : Bool). if b then Err FlowTarget else Ok (mid.arrays, v)) flows

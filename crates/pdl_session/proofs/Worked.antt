@@ -1,5 +1,6 @@
 -- What a script of late writes moves.
 use Rattle.std.proofs.Common.{◌≡◌, ℕ, zero, suc, ◌+◌, ◌<◌, ◌≤◌, Bool, true, false, List, [], ◌∷◌, Option, Some, None, Ok, Err, refl, sym, ap, subst, ◌∙◌, arith, eq-eqb}
+use Rattle.std.specs.List.{list_any}
 use Rattle.std.specs.Prelude.{pos, ◌==◌, if◌then◌else◌, sum_by, IfSome, codes, get_or}
 use Rattle.pdl_lemmas.specs.Tests.{by_test}
 use Rattle.pdl_slices.specs.Meaning.{slice_of, read_on}
@@ -16,15 +17,17 @@ use Rattle.pdl_syntax.specs.Tree.{number}
 use Rattle.pdl_machine.specs.Names.{number_of}
 use Rattle.pdl_machine.specs.State.{State, kept, no_names, with_world}
 use Rattle.pdl_machine.specs.Step.{Stepped, effect}
+use Rattle.pdl_machine.specs.Flows.{all_read}
+use Rattle.pdl_machine.specs.Tidy.{settled}
 use Rattle.pdl_machine.specs.Watches.{attached}
 use Rattle.pdl_scope.specs.Scope.{Scope, engine_of, machine}
-use Rattle.pdl_session.specs.Bounds.{RunsInPlace}
+use Rattle.pdl_session.specs.Bounds.{RunsInPlace, is_read_from}
 use Rattle.pdl_session.specs.Session.{IsKeptWarm, Session}
 use Rattle.pdl_session.specs.WorkedBounds.{Follows, LateWritesMoveLittle, late_writes}
 
 -- the state that is left
 abbrev left_by : Stepped → State
-left_by (Ok after) = with_world after.0 (kept after.0)
+left_by (Ok after) = with_world (settled after.0) (kept after.0)
 left_by (Err e) = no_names
 
 -- the state after so many statements
@@ -110,11 +113,14 @@ late_writes_move_little s n first follows = (fourth, fifth, sixth)
     unwatched3 : attached (s 3).scope.watches ≡ []
     unwatched3 = subst (λ (t : State). attached t.watches ≡ []) (sym m3) refl
 
+    unread3 : is_read_from (s 3).scope 3 ≡ false
+    unread3 = subst (λ (t : State). list_any (λ k. root_of t.arrays.world k == root_of t.arrays.world 3) (all_read t.flows) ≡ false) (sym m3) refl
+
     size3 : size_of (dims_in (s 3).scope.arrays.world 3) ≡ 3
     size3 = subst (λ (t : State). size_of (dims_in t.arrays.world 3) ≡ 3) (sym m3) refl
 
     fourth : n 4 ≤ n 3 + 4
-    fourth = (let a = f3.again (codes "b") Set (number (pos 2)) 3 1 refl refl b3 (f2.warm ∙ b2) once3 unwatched3 in omega (arith, a, size3))
+    fourth = (let a = f3.again (codes "b") Set (number (pos 2)) 3 1 refl refl b3 (f2.warm ∙ b2) once3 unwatched3 unread3 in omega (arith, a, size3))
 
     once4 : has_repeats (places_in (s 4).scope.arrays.world (base (s 4).scope.arrays.world 3)) ≡ false
     once4 = subst (λ (t : State). has_repeats (places_in t.arrays.world (base t.arrays.world 3)) ≡ false) (sym m4) refl

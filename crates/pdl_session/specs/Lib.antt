@@ -13,3 +13,6 @@ pub mod Dumping
 pub mod WorkedBounds
 pub mod Moves
 pub mod Statements
+pub mod Evaluations
+pub mod Flowing
+pub mod MovesLaws

@@ -11,11 +11,12 @@ use Rattle.pdl_syntax.specs.Tree.{Args, Tree}
 use Rattle.pdl_machine.specs.Cuts.{dims_given}
 use Rattle.pdl_machine.specs.Names.{bound_to, number_of}
 use Rattle.pdl_machine.specs.Outcome.{Given, Valued}
+use Rattle.pdl_machine.specs.Step.{target_in}
 use Rattle.pdl_machine.specs.Then.{and_then}
 use Rattle.pdl_machine.specs.Value.{taken, value_of}
 use Rattle.pdl_machine.specs.Watches.{attached}
 use Rattle.pdl_scope.specs.Costs.{total_size}
-use Rattle.pdl_scope.specs.Scope.{Scope, engine_of}
+use Rattle.pdl_scope.specs.Scope.{Scope, engine_of, machine}
 use Rattle.pdl_scope.specs.declared.fault.ScopeFault.{ScopeFault}
 use Rattle.pdl_scope.specs.declared.fault.ScopeFault.TheVariants.{NoMemory}
 use Rattle.pdl_session.specs.Costs.{named_steps}
@@ -64,9 +65,9 @@ abbrev pub assign_steps : Scope → (place value : Tree) → ℕ
 assign_steps s place e =
     (named_steps s place + named_steps s e)
     + (sum_by (read_steps (engine_of s)) (attached s.watches)
-    + value_size (value_of s.names s.arrays place))
+    + value_size (target_in (machine s) place))
 
 -- the value of an assignment, which comes after its target
 abbrev pub value_after : Scope → (place value : Tree) → Valued
 value_after s place e =
-    and_then (value_of s.names s.arrays place) (λ v. value_of s.names v.0 e)
+    and_then (target_in (machine s) place) (λ v. value_of s.names v.0 e)

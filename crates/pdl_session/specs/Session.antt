@@ -15,7 +15,7 @@ use Rattle.pdl_machine.specs.State.{State, no_names, IsSwept}
 use Rattle.pdl_machine.specs.Tidy.{tidy}
 use Rattle.pdl_machine.specs.Watches.{attached}
 use Rattle.pdl_scope.specs.Scope.{Scope, engine_of, machine, scope_in}
-use Rattle.pdl_session.specs.Bounds.{plain_count}
+use Rattle.pdl_session.specs.Bounds.{is_read_from, plain_count}
 
 -- What is seen of a session: the machine's state; the scope, in which arrays have the engine's
 -- numbers, with what the engine can lend; the array that the last statement assigned to by a bare
@@ -30,7 +30,7 @@ pub record Session : Type 0 where
 abbrev pub no_steps : Session
 no_steps = record {
   state = no_names;
-  scope = scope_in nothing_named [] no_arrays;
+  scope = scope_in nothing_named [] [] no_arrays;
   warm = None;
   done = 0;
 }
@@ -46,18 +46,19 @@ pub record IsAtRest (s : Scope) (warm : Option ℕ) : Type 0 where
   pub spelled : IsSpelled (tidy (machine s))
   pub kept_warm : IfSome warm (IsKeptWarm s)
 
--- A statement that was refused left names, arrays and slots as they were, by the scope's own
+-- A statement that was refused left names, arrays, slots and flows as they were, by the scope's own
 -- numbers; and each array that could be lent can be lent still.
 pub record IsAsBefore (old new : Scope) : Type 0 where
   pub names : new.names ≡ old.names
   pub world : new.arrays.world ≡ old.arrays.world
   pub watches : new.watches ≡ old.watches
+  pub flows : new.flows ≡ old.flows
   pub lent : (v : ℕ) → IsLive old.arrays.world v → is_fresh (engine_of old) v ≡ true
       → is_fresh (engine_of new) v ≡ true
 
--- A number or a list is assigned once more to the bare name of the array that was assigned to
--- last. Where its base has no repeats and no slot is attached, at most as many elements are moved
--- as both sides have together.
+-- A number or a list is assigned once more to the bare name of the array that was assigned to last.
+-- Where its base has no repeats, no slot is attached, and no flow reads an array of its root, at
+-- most as many elements are moved as both sides have together.
 abbrev pub AssignsAgain : Session → StatementTree → (before after : ℕ) → Type 0
 AssignsAgain s statement before after =
     (x : List ℕ) (sign : AssignOp) (e : Tree) (v n : ℕ)
@@ -65,6 +66,7 @@ AssignsAgain s statement before after =
     → number_of s.scope.names x ≡ Some v → s.warm ≡ Some v
     → has_repeats (places_in s.scope.arrays.world (base s.scope.arrays.world v)) ≡ false
     → attached s.scope.watches ≡ []
+    → is_read_from s.scope v ≡ false
     → after ≤ before + (size_of (dims_in s.scope.arrays.world v) + n)
 
 -- A bare name is printed. At most as many elements are moved as it takes to read its array: none

@@ -240,7 +240,7 @@ fn outcome<L: Ledger>(
 }
 
 /// The type of a number that stands in a script.
-fn number_type(number: i64) -> Ty
+pub fn number_type(number: i64) -> Ty
     ensures ty { result ≡ type_of (number ∷ []) }
     ensures in_range { InRange result number }
 {

@@ -12,6 +12,7 @@ mod dumping;
 mod eval;
 mod fault;
 mod fill;
+mod flowing;
 mod given;
 mod inquiry;
 mod laws;
@@ -27,5 +28,5 @@ mod views;
 mod watching;
 
 pub use fault::{StepFault, WatcherFailed};
-pub use laws::worked_bounds;
+pub use laws::{moves_laws, worked_bounds};
 pub use session::Session;

@@ -5,14 +5,17 @@ ghost use Rattle.pdl_syntax.specs.WellMade.{IsWellMade};
 ghost use Rattle.pdl_watch.specs.Slots.{slots_by, present_in, all_ended, EndedShort};
 ghost use Rattle.pdl_engine.specs.State.{IsLazy};
 ghost use Rattle.pdl_machine.specs.Dumpable.{IsDumpable};
+ghost use Rattle.pdl_machine.specs.Following.{AreFlows};
 ghost use Rattle.pdl_machine.specs.Step.{step};
 ghost use Rattle.pdl_machine.specs.Tidy.{tidy};
-ghost use Rattle.pdl_scope.specs.Answers.{IsFault};
+ghost use Rattle.pdl_scope.specs.Answers.{IfScript, IsFault};
 ghost use Rattle.pdl_scope.specs.Scope.{engine_of, machine, slots_limit};
 ghost use Rattle.pdl_session.specs.Advanced.{HasAdvanced};
 ghost use Rattle.pdl_session.specs.Dumping.{DumpMakesAgain, PrintsDump};
-ghost use Rattle.pdl_session.specs.Faults.{IfWatcher, UnlessWatcher};
+ghost use Rattle.pdl_session.specs.Evaluations.{RunsAtMost};
+ghost use Rattle.pdl_session.specs.Faults.{IfFaulted, IfWatcher, UnlessWatcher, ending, step_ending};
 ghost use Rattle.pdl_session.specs.Bounds.{LeavesReadable, RunsInPlace, warm_after};
+ghost use Rattle.pdl_session.specs.Statements.{MovesAtMost};
 ghost use Rattle.pdl_session.specs.Session.{no_steps, AssignsAgain, IsAsBefore, IsAtRest, PrintsAtMost};
 ghost use Rattle.pdl_session.specs.Watching.{AreServed, HasDone, HasRun, IsRefusal};
 
@@ -22,22 +25,22 @@ use crate::statement::{bare_target, run};
 use crate::watching::{finish, hear};
 use pdl_buf::Steps;
 use pdl_engine::ArrayId;
-use pdl_machine::{dump_law, dumpable_laws, numbering_laws, watching_laws};
+use pdl_machine::{dump_law, dumpable_laws, flow_laws, numbering_laws, watching_laws};
 use pdl_rebuild::dumps_rebuild;
 use pdl_reread::dumps_are_reread;
 use pdl_scope::{Scope, ScopeFault};
 use pdl_syntax::Statement;
 use pdl_watch::{Watcher, slot_laws};
-use pdl_world::{growth_laws, sweep_laws};
+use pdl_world::{assignment_laws, growth_laws, sweep_laws};
 use std::alloc::Global;
 use std::marker::Model;
 use std::sync::ledger::Ledger;
 
 /// The names, arrays and attached slots of a script, between two statements. It is seen as the
-/// state of the eager machine, which is the names and the slots with the arrays that they reach,
-/// numbered anew; as its scope, in which arrays have the engine's numbers; as the array that the
-/// last statement assigned to by a bare name, if it did; and as how many calls of `step` there were.
-/// No other array is kept. The watchers are the caller's.
+/// state of the eager machine, which is the names, the slots and the flows with the arrays that
+/// these need, numbered anew; as its scope, in which arrays have the engine's numbers; as the array
+/// that the last statement assigned to by a bare name, if it did; and as how many calls of `step`
+/// there were. No other array is kept. The watchers are the caller's.
 #[derive(Drop)]
 pub struct Session {
     scope: Scope,
@@ -48,11 +51,15 @@ pub struct Session {
 }
 
 impl Model for Session {
+    ghost use Rattle.std.specs.Coded.{codes};
     ghost use Rattle.pdl_machine.specs.Tidy.{tidy};
+    ghost use Rattle.pdl_scope.specs.Coding.{coded_formula};
     ghost use Rattle.pdl_scope.specs.Scope.{machine};
     ghost use Rattle.pdl_session.specs.Session.{IsAtRest, Session as Seen};
 
     ghost Value = { Seen };
+
+    ghost coded = { Prim.hlevel (codes, coded_formula) };
 
     ghost view = { λ s. record {
       state = tidy (machine s.scope);
@@ -65,7 +72,7 @@ impl Model for Session {
 }
 
 impl Session {
-    /// No names, no arrays, and no slot attached.
+    /// No names, no arrays, no slot attached, and no flows.
     pub fn new(alloc: Global) -> Session
         ensures { result ≡ no_steps }
     {
@@ -79,12 +86,16 @@ impl Session {
 
     /// What a session keeps between two statements: its state is its scope's, numbered anew; no
     /// array is left over; a script can spell the state; the array that was assigned to last can be
-    /// lent, if its base has no repeats; and views are lazy. The call does nothing when it runs.
+    /// lent, if its base has no repeats; views are lazy; and the root of each flow shows what its
+    /// formula is (`flows`). The call does nothing when it runs.
     pub fn at_rest(&self)
         ensures state { self.now.state ≡ tidy (machine self.now.scope) }
         ensures rest { IsAtRest self.now.scope self.now.warm }
         ensures lazy { IsLazy (engine_of self.now.scope) }
+        ensures flows { AreFlows self.now.state.arrays self.now.state.flows }
     {
+        flow_laws();
+        self.scope.whole();
         self.scope.lazy_law()
     }
 
@@ -102,7 +113,8 @@ impl Session {
         self.scope.whole()
     }
 
-    /// How many arrays there are: just those that names and attached slots reach.
+    /// How many arrays there are: just those that names and attached slots reach, and those that
+    /// the flows need whose roots are reached.
     pub fn live(&self) -> u64
         ensures { result ≡ length self.now.state.arrays.world }
     {
@@ -121,13 +133,19 @@ impl Session {
     /// attached and the array's base has no repeats; a print of a bare name moves what is outdated
     /// or waits, and nothing where the array can be lent. A refused statement moves no more. By
     /// `dump` the dump of the state is printed, which makes the state again (`dumps`).
-    pub fn step<L: Ledger>(
+    ///
+    /// After each statement the root of each flow shows what its formula is (`flows`). `runs`
+    /// counts the formulas that are evaluated: by an assignment at most one for each flow that
+    /// reads, directly or through flows, an array of the root that it assigns to; by `flow` at most
+    /// its own; by any other statement, and by one that the script refuses, none (`flowing`, `unrun`).
+    pub fn step<L: Ledger, M: Ledger>(
         &mut self,
         statement: &Statement,
         number: u64,
         out: &mut Vec<u8>,
         watchers: &mut Vec<Option<Box<dyn Watcher>>>,
         steps: &mut Steps<L>,
+        runs: &mut Steps<M>,
     ) -> Result<(), StepFault>
         requires made { IsWellMade (statement_of statement.now) }
         requires served { let slots = slots_by (λ b. seen b) watchers.old.items in
@@ -159,6 +177,13 @@ impl Session {
         ensures warm_kept { IfErr result (λ e. UnlessWatcher e (self.new.warm ≡ self.old.warm)) }
         ensures scope_kept { IfErr result (λ e. UnlessWatcher e
             (IsAsBefore self.old.scope self.new.scope)) }
+        ensures flows { AreFlows self.new.state.arrays self.new.state.flows }
+        ensures flowing { let tree = statement_of statement.now in
+            RunsAtMost self.old.scope tree runs.old runs.new }
+        ensures unrun { IfErr result (λ e. IfFaulted e (runs.new ≡ runs.old)) }
+        ensures bounded { let present = present_in (slots_by (λ b. seen b) watchers.old.items) in
+            MovesAtMost present (statement_of statement.now) self.old.scope self.new.scope
+            steps.old steps.new (step_ending result) }
         ensures again { AssignsAgain self.old (statement_of statement.now) steps.old steps.new }
         ensures shown { PrintsAtMost self.old (statement_of statement.now) steps.old steps.new }
         ensures readable { OnOk result
@@ -169,17 +194,18 @@ impl Session {
         ensures dumps { OnOk result (PrintsDump self.old.state (statement_of statement.now)
             out.old.items out.new.items) }
     {
-        self.step_over(statement, number, out, watchers, steps)
+        self.step_over(statement, number, out, watchers, steps, runs)
     }
 
     /// The same over watchers of any kind.
-    pub fn step_over<W: Watcher, L: Ledger>(
+    pub fn step_over<W: Watcher, L: Ledger, M: Ledger>(
         &mut self,
         statement: &Statement,
         number: u64,
         out: &mut Vec<u8>,
         watchers: &mut Vec<Option<W>>,
         steps: &mut Steps<L>,
+        runs: &mut Steps<M>,
     ) -> Result<(), StepFault>
         requires made { IsWellMade (statement_of statement.now) }
         requires served { AreServed self.old.state.watches (slots_by W.seen watchers.old.items) }
@@ -209,6 +235,13 @@ impl Session {
         ensures warm_kept { IfErr result (λ e. UnlessWatcher e (self.new.warm ≡ self.old.warm)) }
         ensures scope_kept { IfErr result (λ e. UnlessWatcher e
             (IsAsBefore self.old.scope self.new.scope)) }
+        ensures flows { AreFlows self.new.state.arrays self.new.state.flows }
+        ensures flowing { let tree = statement_of statement.now in
+            RunsAtMost self.old.scope tree runs.old runs.new }
+        ensures unrun { IfErr result (λ e. IfFaulted e (runs.new ≡ runs.old)) }
+        ensures bounded { let present = present_in (slots_by W.seen watchers.old.items) in
+            MovesAtMost present (statement_of statement.now) self.old.scope self.new.scope
+            steps.old steps.new (step_ending result) }
         ensures again { AssignsAgain self.old (statement_of statement.now) steps.old steps.new }
         ensures shown { PrintsAtMost self.old (statement_of statement.now) steps.old steps.new }
         ensures readable { OnOk result
@@ -224,7 +257,7 @@ impl Session {
         watching_laws();
         self.at_rest();
         self.dumpable();
-        match self.advance(statement, number, watchers, out, steps) {
+        match self.advance(statement, number, watchers, out, steps, runs) {
             Ok(news) => match hear(watchers, &news) {
                 Ok(()) => Ok(()),
                 Err(_) => Err(StepFault::Watcher),
@@ -234,13 +267,14 @@ impl Session {
     }
 
     /// Runs the statement of this number, and answers what watchers are to hear of it.
-    fn advance<W: Watcher, L: Ledger>(
+    fn advance<W: Watcher, L: Ledger, M: Ledger>(
         &mut self,
         statement: &Statement,
         number: u64,
         watchers: &Vec<Option<W>>,
         out: &mut Vec<u8>,
         steps: &mut Steps<L>,
+        runs: &mut Steps<M>,
     ) -> Result<News, ScopeFault>
         requires made { IsWellMade (statement_of statement.now) }
         requires few { length watchers.now.items ≤ slots_limit }
@@ -257,6 +291,13 @@ impl Session {
             (self.new.warm ≡ warm_after self.old.scope (statement_of statement.now)) }
         ensures warm_kept { OnErr result (self.new.warm ≡ self.old.warm) }
         ensures scope_kept { OnErr result (IsAsBefore self.old.scope self.new.scope) }
+        ensures flows { AreFlows self.new.state.arrays self.new.state.flows }
+        ensures flowing { let tree = statement_of statement.now in
+            RunsAtMost self.old.scope tree runs.old runs.new }
+        ensures unrun { IfScript result (runs.new ≡ runs.old) }
+        ensures bounded { let present = present_in (slots_by W.seen watchers.now.items) in
+            MovesAtMost present (statement_of statement.now) self.old.scope self.new.scope
+            steps.old steps.new (ending result) }
         ensures again { AssignsAgain self.old (statement_of statement.now) steps.old steps.new }
         ensures shown { PrintsAtMost self.old (statement_of statement.now) steps.old steps.new }
         ensures readable { OnOk result
@@ -269,13 +310,18 @@ impl Session {
         dumpable_laws();
         watching_laws();
         growth_laws();
+        assignment_laws();
         sweep_laws();
+        flow_laws();
         self.calls = self.calls.saturating_add(1);
         self.scope.whole();
         let assigned = bare_target(&self.scope, statement);
-        let ran = run(&mut self.scope, statement, number, watchers, out, steps);
+        let scope = &mut self.scope;
+        let ran = run(scope, statement, number, watchers, out, steps, runs);
         self.scope.whole();
+        self.scope.lazy_law();
         self.scope.let_go(steps);
+        self.scope.whole();
         self.warm = warm_then(&ran, assigned, self.warm);
         ran
     }

@@ -6,13 +6,12 @@ ghost use Rattle.pdl_syntax.specs.StatementTree.{statement_of, assign, bind_list
 ghost use Rattle.pdl_syntax.specs.WellMade.{AreArrays, AreArgArrays, IsWellMade};
 ghost use Rattle.pdl_machine.specs.Names.{number_of};
 ghost use Rattle.pdl_machine.specs.Then.{and_then};
-ghost use Rattle.pdl_machine.specs.Cuts.{severed};
 ghost use Rattle.pdl_machine.specs.Value.{value_of};
-ghost use Rattle.pdl_machine.specs.Step.{bound, list_bound, target, assigning, after_printing, effect, newline};
+ghost use Rattle.pdl_machine.specs.Step.{bind_severed, bound, list_bound, target, assigning, after_printing, effect, newline};
 ghost use Rattle.pdl_machine.specs.Watches.{notices};
 ghost use Rattle.pdl_print.specs.Pieces.{Begins};
 ghost use Rattle.pdl_watch.specs.Slots.{lists_of, present_in, slots_by};
-ghost use Rattle.pdl_scope.specs.Answers.{Runs};
+ghost use Rattle.pdl_scope.specs.Answers.{IfScript, Runs};
 ghost use Rattle.pdl_scope.specs.Costs.{MovesWithin};
 ghost use Rattle.pdl_session.specs.Costs.{named_steps, ready_all};
 ghost use Rattle.pdl_session.specs.Moves.{MovesUpTo, assign_steps, came, cut_steps, value_after, value_size};
@@ -20,6 +19,7 @@ ghost use Rattle.pdl_scope.specs.Scope.{engine_of, machine, slots_limit};
 ghost use Rattle.pdl_session.specs.News.{IsNewsOf};
 ghost use Rattle.pdl_session.specs.declared.news.News.TheVariants.{Nothing};
 ghost use Rattle.pdl_session.specs.Bounds.{LeavesReadable, MovesPlainly, warm_after};
+ghost use Rattle.pdl_session.specs.Evaluations.{RunsAtMost, affected_in};
 ghost use Rattle.pdl_session.specs.Performed.{Performs};
 ghost use Rattle.pdl_session.specs.Statements.{MovesByForm};
 ghost use Rattle.pdl_session.specs.Arguments.{arguments, AreGivenLive};
@@ -28,10 +28,11 @@ use crate::call::{call, several};
 use crate::defining::define_kernel;
 use crate::dumping::dump;
 use crate::eval::{eval, take};
+use crate::flowing::flow;
 use crate::given::Given;
 use crate::news::News;
 use crate::resizing::reshape;
-use crate::target::target;
+use crate::target::assigned_to;
 use crate::watching::{unwatch, watch};
 use pdl_buf::Steps;
 use pdl_elem::Name;
@@ -62,8 +63,8 @@ fn bind_value<L: Ledger>(
     scope.bind(name, id)
 }
 
-/// Binds a name to a value that is cut from its parent. The cut takes at most a step for each of its
-/// elements, beside what the value takes.
+/// Binds a name to a value that is cut from its parent; where it is a flow's root, the flow ends.
+/// The cut takes at most a step for each of its elements, beside what the value takes.
 fn bind_severed<L: Ledger>(
     scope: &mut Scope,
     name: &Name,
@@ -72,7 +73,7 @@ fn bind_severed<L: Ledger>(
 ) -> Result<(), ScopeFault>
     requires { AreArrays (tree_of value.now) }
     ensures runs { let valued = value_of scope.old.names scope.old.arrays (tree_of value.now) in
-        let wanted = bound (machine scope.old) name.now (severed valued) in
+        let wanted = and_then valued (bind_severed (machine scope.old) name.now) in
         Runs wanted scope.old scope.new [] [] result }
     ensures within { let tree = tree_of value.now in
         let valued = value_of scope.old.names scope.old.arrays tree in
@@ -84,8 +85,8 @@ fn bind_severed<L: Ledger>(
     scope.bind_severed(name, id, steps)
 }
 
-/// Cuts the array of a name from its parent, which takes at most what makes it ready, and a step for
-/// each of its elements.
+/// Cuts the array of a name from its parent, which takes at most what makes it ready, and a step
+/// for each of its elements. Where it is a flow's root, the flow ends.
 fn sever<L: Ledger>(scope: &mut Scope, name: &Name, steps: &mut Steps<L>) -> Result<(), ScopeFault>
     ensures runs { let wanted = effect [] (machine scope.old) (sever' name.now) in
         Runs wanted scope.old scope.new [] [] result }
@@ -99,8 +100,8 @@ fn sever<L: Ledger>(scope: &mut Scope, name: &Name, steps: &mut Steps<L>) -> Res
     }
 }
 
-/// Binds the outputs of the call of a name, whose arguments were evaluated, to a list of names. Each
-/// argument is read once at most.
+/// Binds the outputs of the call of a name, whose arguments were evaluated, to a list of names.
+/// Each argument is read once at most.
 fn bind_outputs<L: Ledger>(
     scope: &mut Scope,
     bound: &[Name],
@@ -148,16 +149,19 @@ fn bind_list<L: Ledger>(
     }
 }
 
-/// Assigns by a sign: the target's array comes first, then the value's. The answer is what watchers
-/// are to be told, by slots. Beside what both expressions take, it takes at most what it takes to
-/// read each array that a slot is attached to, and a step for each element of the target.
-fn assign_value<L: Ledger>(
+/// Assigns by a sign: the target's array comes first, then the value's, and then flows follow. The
+/// answer is what watchers are to be told, by slots. At most one formula is evaluated for each flow
+/// that reads, directly or through flows, an array of the target's root. Where none does, the
+/// assignment takes, beside what both expressions take, at most what it takes to read each array
+/// that a slot is attached to, and a step for each element of the target.
+fn assign_value<L: Ledger, M: Ledger>(
     scope: &mut Scope,
     to: &Target,
     sign: AssignOp,
     value: &Expr,
     number: u64,
     steps: &mut Steps<L>,
+    runs: &mut Steps<M>,
 ) -> Result<Vec<Vec<Notice>>, ScopeFault>
     requires views { All (λ v. AreArgArrays v.1) (map view_of to.now.views.items) }
     requires made { AreArrays (tree_of value.now) }
@@ -168,7 +172,12 @@ fn assign_value<L: Ledger>(
         let most = assign_steps scope.old place (tree_of value.now) in
         let valued = value_after scope.old place (tree_of value.now) in
         let late = came valued scope.new.arrays.world in
+        affected_in scope.old place ≡ [] →
         MovesUpTo most scope.old late steps.old steps.new result }
+    ensures flowing { let place = map view_of to.now.views.items in
+        let statement = assign to.now.name place sign (tree_of value.now) in
+        RunsAtMost scope.old statement runs.old runs.new }
+    ensures unrun { IfScript result (runs.new ≡ runs.old) }
     ensures told { let w = scope.old.arrays.world in
         let wanted = notices number w scope.new.arrays.world scope.new.watches in
         IfOk result (λ all. lists_of all.items ≡ wanted) }
@@ -183,11 +192,11 @@ fn assign_value<L: Ledger>(
     growth_laws();
     cost_laws();
     scope.in_order();
-    let to = target(scope, to, steps)?;
+    let to = assigned_to(scope, to, steps)?;
     scope.in_order();
     let from = eval(scope, value, steps)?;
     scope.in_order();
-    scope.assign(sign, to, from, number, steps)
+    scope.assign(sign, to, from, number, steps, runs)
 }
 
 /// Prints a value, or its info. A part of the text may stand in `out` when out of memory.
@@ -238,13 +247,14 @@ pub fn bare_target(scope: &Scope, statement: &Statement) -> Option<ArrayId>
 /// what can be attached. Where it is refused, names and `out` are as they were, be it by a fault or
 /// by being out of memory; new arrays may have come.
 #[tactic(auto, using(crate::proofs::Statements::cut_front))]
-pub fn run<W: Watcher, L: Ledger>(
+pub fn run<W: Watcher, L: Ledger, M: Ledger>(
     scope: &mut Scope,
     statement: &Statement,
     number: u64,
     watchers: &Vec<Option<W>>,
     out: &mut Vec<u8>,
     steps: &mut Steps<L>,
+    runs: &mut Steps<M>,
 ) -> Result<News, ScopeFault>
     requires made { IsWellMade (statement_of statement.now) }
     requires few { length watchers.now.items ≤ slots_limit }
@@ -254,6 +264,10 @@ pub fn run<W: Watcher, L: Ledger>(
     ensures news { let w = scope.old.arrays.world in
         let told = notices number w scope.new.arrays.world scope.new.watches in
         IfOk result (IsNewsOf (statement_of statement.now) told) }
+    ensures bounded { let tree = statement_of statement.now in
+        MovesByForm tree scope.old scope.new steps.old steps.new result }
+    ensures flowing { RunsAtMost scope.old (statement_of statement.now) runs.old runs.new }
+    ensures unrun { IfScript result (runs.new ≡ runs.old) }
     ensures moves { let statement = statement_of statement.now in
         MovesPlainly statement scope.old scope.new steps.old steps.new }
     ensures readable { let statement = statement_of statement.now in
@@ -261,7 +275,9 @@ pub fn run<W: Watcher, L: Ledger>(
 {
     let mark = out.len();
     let mut news = News::Nothing;
-    match perform(scope, statement, number, watchers, &mut news, out, steps) {
+    match perform(
+        scope, statement, number, watchers, &mut news, out, steps, runs,
+    ) {
         Ok(()) => Ok(news),
         Err(fault) => {
             out.truncate(mark);
@@ -271,8 +287,9 @@ pub fn run<W: Watcher, L: Ledger>(
 }
 
 /// Does what a statement says, and puts what watchers are to hear in place of nothing. A part of
-/// its text may stand in `out` where it is refused. It moves what the statement's form says at most.
-fn perform<W: Watcher, L: Ledger>(
+/// its text may stand in `out` where it is refused. It moves what the statement's form says at
+/// most.
+fn perform<W: Watcher, L: Ledger, M: Ledger>(
     scope: &mut Scope,
     statement: &Statement,
     number: u64,
@@ -280,6 +297,7 @@ fn perform<W: Watcher, L: Ledger>(
     news: &mut News,
     out: &mut Vec<u8>,
     steps: &mut Steps<L>,
+    runs: &mut Steps<M>,
 ) -> Result<(), ScopeFault>
     requires made { IsWellMade (statement_of statement.now) }
     requires few { length watchers.now.items ≤ slots_limit }
@@ -292,6 +310,8 @@ fn perform<W: Watcher, L: Ledger>(
         OnOk result (IsNewsOf (statement_of statement.now) told news.new) }
     ensures bounded { let tree = statement_of statement.now in
         MovesByForm tree scope.old scope.new steps.old steps.new result }
+    ensures flowing { RunsAtMost scope.old (statement_of statement.now) runs.old runs.new }
+    ensures unrun { IfScript result (runs.new ≡ runs.old) }
     ensures moves { let statement = statement_of statement.now in
         MovesPlainly statement scope.old scope.new steps.old steps.new }
     ensures readable { let statement = statement_of statement.now in
@@ -310,7 +330,7 @@ fn perform<W: Watcher, L: Ledger>(
         } => bind_severed(scope, name, value, steps),
         Statement::BindList { names, value } => bind_list(scope, names, value, steps),
         Statement::Assign { target, op, value } => {
-            let all = assign_value(scope, target, *op, value, number, steps)?;
+            let all = assign_value(scope, target, *op, value, number, steps, runs)?;
             *news = News::Notices(all);
             Ok(())
         }
@@ -321,6 +341,7 @@ fn perform<W: Watcher, L: Ledger>(
         Statement::Undef { name } => scope.undef(name),
         Statement::Vars => Ok(scope.print_names(out)?),
         Statement::Dump => dump(scope, out, steps),
+        Statement::Flow { name, value } => flow(scope, name, value, steps),
         Statement::PpDef {
             name,
             signature,

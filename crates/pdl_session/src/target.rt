@@ -1,15 +1,17 @@
 //! What an assignment writes to.
-ghost use Rattle.std.specs.Prelude.{◌≡◌, ◌+◌, [], Ok, map, All};
+ghost use Rattle.std.specs.Prelude.{◌≡◌, ◌+◌, [], false, Ok, map, All, IfOk};
 ghost use Rattle.pdl_syntax.specs.Tree.{Tree, call};
 ghost use Rattle.pdl_syntax.specs.WellMade.{AreArgArrays};
 ghost use Rattle.pdl_syntax.specs.StatementTree.{view_of};
+ghost use Rattle.pdl_world.specs.Paths.{root_of};
 ghost use Rattle.pdl_world.specs.Sound.{IsLive};
 ghost use Rattle.pdl_machine.specs.Arrays.{Arrays};
-ghost use Rattle.pdl_machine.specs.Step.{behind, target as target'};
+ghost use Rattle.pdl_machine.specs.Flows.{is_flow};
+ghost use Rattle.pdl_machine.specs.Step.{behind, target as target', target_in};
 ghost use Rattle.pdl_machine.specs.Value.{value_of};
 ghost use Rattle.pdl_scope.specs.Answers.{Evaluates};
 ghost use Rattle.pdl_engine.specs.State.{ready_steps};
-ghost use Rattle.pdl_scope.specs.Scope.{engine_of, Grows};
+ghost use Rattle.pdl_scope.specs.Scope.{engine_of, machine, Grows};
 ghost use Rattle.pdl_session.specs.Bounds.{IsBare};
 ghost use Rattle.pdl_session.specs.Costs.{argued_steps, named_steps, EvaluatesWithin};
 
@@ -23,10 +25,36 @@ use pdl_scope::{Scope, ScopeFault, cost_laws};
 use pdl_syntax::{Target, ViewCall};
 use std::sync::ledger::Ledger;
 
+/// The array that an assignment writes to, with `FlowTarget` where its root is a flow's. A bare
+/// name takes no step, and any target no more than its expression.
+pub fn assigned_to<L: Ledger>(
+    scope: &mut Scope,
+    to: &Target,
+    steps: &mut Steps<L>,
+) -> Result<ArrayId, ScopeFault>
+    requires { All (λ v. AreArgArrays v.1) (map view_of to.now.views.items) }
+    ensures value { let tree = target' to.now.name (map view_of to.now.views.items) in
+        Evaluates (target_in (machine scope.old) tree) scope.new result }
+    ensures unflowed { IfOk result
+        (λ id. is_flow scope.new.flows (root_of scope.new.arrays.world id) ≡ false) }
+    ensures grown { Grows scope.old scope.new }
+    ensures within { let tree = target' to.now.name (map view_of to.now.views.items) in
+        let most = named_steps scope.old tree in
+        EvaluatesWithin most scope.old scope.new steps.old steps.new result }
+    ensures bare { to.now.views.items ≡ [] →
+        IsBare to.now.name scope.old scope.new steps.old steps.new result }
+{
+    let id = target(scope, to, steps)?;
+    if scope.is_flowing(id) {
+        return Err(ScopeFault::Script(Fault::FlowTarget));
+    }
+    Ok(id)
+}
+
 /// The array of a target: its views, one after another, of the array of its name. A bare name takes
 /// no step, and any target no more than its expression.
 #[tactic(auto, using(crate::proofs::Facts::grows_trans))]
-pub fn target<L: Ledger>(
+fn target<L: Ledger>(
     scope: &mut Scope,
     target: &Target,
     steps: &mut Steps<L>,

@@ -27,12 +27,13 @@ const PART: usize = 4096;
 // Takes the source's bytes in parts, and runs each statement when its last byte is
 // there: to the end of the source, or until the run is ended, or up to and with the byte past
 // the limit of a script. Answers whether that one came.
-pub(crate) fn read_parts<S: Source, K: Sink, W: Watcher, L: Ledger>(
+pub(crate) fn read_parts<S: Source, K: Sink, W: Watcher, L: Ledger, M: Ledger>(
     runner: &mut Runner,
     source: &mut S,
     sink: &mut K,
     watchers: &mut Vec<Option<W>>,
     steps: &mut Steps<L>,
+    runs: &mut Steps<M>,
 ) -> Result<bool, Stop>
     requires fresh { IsFresh runner.old }
     requires ready { (runner.old.cutter.failed ≡ false) × (runner.old.cutter.taken ≡ 0) }
@@ -85,7 +86,7 @@ pub(crate) fn read_parts<S: Source, K: Sink, W: Watcher, L: Ledger>(
             return Ok(false);
         }
         let within = count.min(SCRIPT_LIMIT - taken);
-        runner.take(&part[..within], sink, watchers, steps)?;
+        runner.take(&part[..within], sink, watchers, steps, runs)?;
         taken += count;
     }
     Ok(taken > SCRIPT_LIMIT)

@@ -37,12 +37,13 @@ const USAGE_LINE: &[u8] = b"usage: pdl [--keep-going] [--generate N]\n";
 
 // Runs the script that the source gives by a new runner: each statement as soon as it is whole, and
 // at the end what is left.
-fn drive<S: Source, K: Sink, W: Watcher, L: Ledger>(
+fn drive<S: Source, K: Sink, W: Watcher, L: Ledger, M: Ledger>(
     runner: &mut Runner,
     source: &mut S,
     sink: &mut K,
     watchers: &mut Vec<Option<W>>,
     steps: &mut Steps<L>,
+    runs: &mut Steps<M>,
 ) -> Result<bool, Stop>
     requires fresh { IsFresh runner.old }
     requires ready { (runner.old.cutter.failed ≡ false) × (runner.old.cutter.taken ≡ 0) }
@@ -72,13 +73,13 @@ fn drive<S: Source, K: Sink, W: Watcher, L: Ledger>(
 {
     course_laws();
     run_laws();
-    let is_cut = read_parts(runner, source, sink, watchers, steps)?;
-    runner.finish(is_cut, sink, watchers, steps)
+    let is_cut = read_parts(runner, source, sink, watchers, steps, runs)?;
+    runner.finish(is_cut, sink, watchers, steps, runs)
 }
 
 // Runs the script that the source gives, and leaves in `refused` the statements that memory
 // refused.
-fn run_parts<S: Source, K: Sink, W: Watcher, L: Ledger>(
+fn run_parts<S: Source, K: Sink, W: Watcher, L: Ledger, M: Ledger>(
     alloc: Global,
     keep_going: bool,
     source: &mut S,
@@ -86,10 +87,14 @@ fn run_parts<S: Source, K: Sink, W: Watcher, L: Ledger>(
     watchers: &mut Vec<Option<W>>,
     refused: &mut Refused,
     blank: Blank,
+    runs: Blank,
 ) -> Result<bool, Stop>
     requires name { blank.name ≡ L.name }
     requires parts { blank.parts ≡ L.parts }
     requires some { 0 < blank.parts }
+    requires runs_name { runs.name ≡ M.name }
+    requires runs_parts { runs.parts ≡ M.parts }
+    requires runs_some { 0 < runs.parts }
     requires unfinished { AreOpen (slots_by W.seen watchers.old.items) }
     requires few { length watchers.old.items ≤ slots_limit }
     ensures leaves { (script : List ℕ) → S.left source.old ≡ Some script →
@@ -115,7 +120,8 @@ fn run_parts<S: Source, K: Sink, W: Watcher, L: Ledger>(
 {
     let mut runner = Runner::new(alloc, keep_going);
     let mut steps = new_steps::<L>(blank);
-    let ran = drive(&mut runner, source, sink, watchers, &mut steps);
+    let mut runs = new_steps::<M>(runs);
+    let ran = drive(&mut runner, source, sink, watchers, &mut steps, &mut runs);
     refused.take_over(runner.refused());
     ran
 }
@@ -155,8 +161,9 @@ pub(crate) fn run_script<S: Source, K: Sink, W: Watcher>(
 {
     run_laws();
     let blank = Blank::new(1);
-    let ran = run_parts::<S, K, W, Brand>(
-        alloc, keep_going, source, sink, watchers, refused, blank,
+    let runs = Blank::new(1);
+    let ran = run_parts::<S, K, W, Brand, Brand>(
+        alloc, keep_going, source, sink, watchers, refused, blank, runs,
     );
     status_after(ran, refused)
 }

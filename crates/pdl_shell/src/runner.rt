@@ -116,11 +116,12 @@ impl Runner {
 
     // Runs a statement, and leaves in `text` what it prints. Where it wasn't run, by its fault or
     // for lack of memory, the line that says so is answered.
-    fn answer<W: Watcher, L: Ledger>(
+    fn answer<W: Watcher, L: Ledger, M: Ledger>(
         &mut self,
         mark: &Mark,
         watchers: &mut Vec<Option<W>>,
         steps: &mut Steps<L>,
+        runs: &mut Steps<M>,
     ) -> Result<Option<Line>, Stop>
         requires running { self.old.ended ≡ false }
         requires counted { self.old.count < 2 ^ 63 }
@@ -148,6 +149,7 @@ impl Runner {
             &mut self.text,
             watchers,
             steps,
+            runs,
         );
         match ran {
             Ok(()) => Ok(None),
@@ -158,12 +160,13 @@ impl Runner {
     }
 
     // Runs a statement, and writes what it prints, or the line that says why it wasn't run.
-    fn run<K: Sink, W: Watcher, L: Ledger>(
+    fn run<K: Sink, W: Watcher, L: Ledger, M: Ledger>(
         &mut self,
         mark: &Mark,
         sink: &mut K,
         watchers: &mut Vec<Option<W>>,
         steps: &mut Steps<L>,
+        runs: &mut Steps<M>,
     ) -> Result<(), Stop>
         requires running { self.old.ended ≡ false }
         requires counted { self.old.count < 2 ^ 63 }
@@ -184,7 +187,7 @@ impl Runner {
         ensures tells { KeepsTelling (K.is_flushed sink.old) (K.is_flushed sink.new) }
     {
         course_laws();
-        let reported = self.answer(mark, watchers, steps)?;
+        let reported = self.answer(mark, watchers, steps, runs)?;
         match reported {
             None => write_text(sink, &self.text),
             Some(line) => write_text(sink, line.bytes()),
@@ -202,12 +205,13 @@ impl Runner {
 
     // Feeds bytes to the cutter once, runs the piece that they complete, if
     // any, and answers how many bytes were taken.
-    fn round<K: Sink, W: Watcher, L: Ledger>(
+    fn round<K: Sink, W: Watcher, L: Ledger, M: Ledger>(
         &mut self,
         bytes: &[u8],
         sink: &mut K,
         watchers: &mut Vec<Option<W>>,
         steps: &mut Steps<L>,
+        runs: &mut Steps<M>,
     ) -> Result<usize, Stop>
         requires running { self.old.ended ≡ false }
         requires room { self.old.cutter.taken + length bytes.now < 2 ^ 63 }
@@ -239,7 +243,7 @@ impl Runner {
             None => Ok(used),
             Some(piece) => {
                 let mark = Mark::Statement(piece);
-                self.run(&mark, sink, watchers, steps)?;
+                self.run(&mark, sink, watchers, steps, runs)?;
                 self.keep_room(mark);
                 Ok(used)
             }
@@ -248,12 +252,13 @@ impl Runner {
 
     // Takes bytes of the script, and runs each statement that they complete, until a
     // fault ends the run. No statement that is whole is left then.
-    pub(crate) fn take<K: Sink, W: Watcher, L: Ledger>(
+    pub(crate) fn take<K: Sink, W: Watcher, L: Ledger, M: Ledger>(
         &mut self,
         bytes: &[u8],
         sink: &mut K,
         watchers: &mut Vec<Option<W>>,
         steps: &mut Steps<L>,
+        runs: &mut Steps<M>,
     ) -> Result<(), Stop>
         requires works { self.old.cutter.failed ≡ false }
         requires none_left { settled_from self.old.cutter [] ≡ [] }
@@ -281,7 +286,7 @@ impl Runner {
         course_laws();
         let mut used = 0;
         'taking: while used < bytes.len() && !self.ended {
-            used += self.round(&bytes[used..], sink, watchers, steps)?;
+            used += self.round(&bytes[used..], sink, watchers, steps, runs)?;
         }
         Ok(())
     }
@@ -306,12 +311,13 @@ impl Runner {
     }
 
     // Runs what is left where no bytes are.
-    fn run_last<K: Sink, W: Watcher, L: Ledger>(
+    fn run_last<K: Sink, W: Watcher, L: Ledger, M: Ledger>(
         &mut self,
         is_cut: bool,
         sink: &mut K,
         watchers: &mut Vec<Option<W>>,
         steps: &mut Steps<L>,
+        runs: &mut Steps<M>,
     ) -> Result<(), Stop>
         requires works { self.old.cutter.failed ≡ false }
         requires counted { self.old.count < 2 ^ 63 }
@@ -335,18 +341,19 @@ impl Runner {
         }
         match self.last(is_cut) {
             None => Ok(()),
-            Some(mark) => self.run(&mark, sink, watchers, steps),
+            Some(mark) => self.run(&mark, sink, watchers, steps, runs),
         }
     }
 
     // Ends the run: runs what is left, flushes the sink, finishes the watchers that are attached,
     // and answers whether a statement faulted.
-    pub(crate) fn finish<K: Sink, W: Watcher, L: Ledger>(
+    pub(crate) fn finish<K: Sink, W: Watcher, L: Ledger, M: Ledger>(
         &mut self,
         is_cut: bool,
         sink: &mut K,
         watchers: &mut Vec<Option<W>>,
         steps: &mut Steps<L>,
+        runs: &mut Steps<M>,
     ) -> Result<bool, Stop>
         requires works { self.old.cutter.failed ≡ false }
         requires counted { self.old.count < 2 ^ 63 }
@@ -360,7 +367,7 @@ impl Runner {
         ensures tells { KeepsTelling (K.is_flushed sink.old) (K.is_flushed sink.new) }
     {
         course_laws();
-        self.run_last(is_cut, sink, watchers, steps)?;
+        self.run_last(is_cut, sink, watchers, steps, runs)?;
         flush(sink)?;
         self.session.close_over(watchers)?;
         Ok(self.faulted)

@@ -23,7 +23,7 @@ use std::alloc::Global;
 use std::sync::ledger::Ledger;
 
 // Runs the statement of a text, which has this number, and puts what it prints into `out`.
-fn run_text<W: Watcher, L: Ledger>(
+fn run_text<W: Watcher, L: Ledger, M: Ledger>(
     alloc: Global,
     session: &mut Session,
     text: &[u8],
@@ -32,6 +32,7 @@ fn run_text<W: Watcher, L: Ledger>(
     out: &mut Vec<u8>,
     watchers: &mut Vec<Option<W>>,
     steps: &mut Steps<L>,
+    runs: &mut Steps<M>,
 ) -> Result<(), StepFault>
     requires within { length text.now ≤ statement_limit }
     requires empty { out.old.items ≡ [] }
@@ -44,17 +45,18 @@ fn run_text<W: Watcher, L: Ledger>(
         (slots_by W.seen watchers.new.items) }
 {
     let statement = read(alloc, text, rooms)?;
-    run_statement(session, &statement, number, out, watchers, steps)
+    run_statement(session, &statement, number, out, watchers, steps, runs)
 }
 
 // Runs a statement, which has this number, and puts what it prints into `out`.
-fn run_statement<W: Watcher, L: Ledger>(
+fn run_statement<W: Watcher, L: Ledger, M: Ledger>(
     session: &mut Session,
     statement: &Statement,
     number: u64,
     out: &mut Vec<u8>,
     watchers: &mut Vec<Option<W>>,
     steps: &mut Steps<L>,
+    runs: &mut Steps<M>,
 ) -> Result<(), StepFault>
     requires made { IsWellMade (statement_of statement.now) }
     requires empty { out.old.items ≡ [] }
@@ -67,12 +69,12 @@ fn run_statement<W: Watcher, L: Ledger>(
     ensures served { AreServedAfter result session.new.state.watches
         (slots_by W.seen watchers.new.items) }
 {
-    session.step_over(statement, number, out, watchers, steps)
+    session.step_over(statement, number, out, watchers, steps, runs)
 }
 
 // Runs a statement of the script, which has this number, and leaves in `out` what it prints:
 // nothing where it wasn't run.
-pub(crate) fn run_mark<W: Watcher, L: Ledger>(
+pub(crate) fn run_mark<W: Watcher, L: Ledger, M: Ledger>(
     alloc: Global,
     session: &mut Session,
     mark: &Mark,
@@ -81,6 +83,7 @@ pub(crate) fn run_mark<W: Watcher, L: Ledger>(
     out: &mut Vec<u8>,
     watchers: &mut Vec<Option<W>>,
     steps: &mut Steps<L>,
+    runs: &mut Steps<M>,
 ) -> Result<(), StepFault>
     requires served { AreServed session.old.state.watches (slots_by W.seen watchers.old.items) }
     ensures ran { let slots = slots_by W.seen watchers.old.items in
@@ -101,6 +104,7 @@ pub(crate) fn run_mark<W: Watcher, L: Ledger>(
             out,
             watchers,
             steps,
+            runs,
         ),
         Mark::Statement(Piece::TooLong { .. }) => Err(StepFault::Script(Fault::StatementTooLong)),
         Mark::ScriptTooLong(_) => Err(StepFault::Script(Fault::ScriptTooLong)),

@@ -15,7 +15,7 @@ use Rattle.pdl_syntax.specs.Ragged.{is_ragged, are_ragged, in_views, in_statemen
 use Rattle.pdl_syntax.proofs.Raggedness.{any_last}
 use Rattle.pdl_syntax.specs.Grammar.{literal_of, Spells, Part, an_expr, a_postfix, a_primary, an_arg, some_args, closed_args, maybe_args, same, joined, once, negated, prefixed, plain, bare, method, a_number, a_name, list, round_list, called, round, a_value, a_text, a_type, one, more as more_args, no_args, all_args, without, within}
 use Rattle.pdl_syntax.specs.StatementTree.{StatementTree, View}
-use Rattle.pdl_syntax.specs.Statements.{SpellsNames, one_name, more_names, SpellsText, plain_text, labelled, SpellsViews, no_views, one_view, SpellsCalled, by_word, by_method, SpellsBinding, binds_value, binds_severed, binds_names, SpellsStatement, binds, my_binds, assigns, shows_text, shows, shows_info, severs, reshapes, undefs, lists_names, dumps, defines, watches, unwatches}
+use Rattle.pdl_syntax.specs.Statements.{SpellsNames, one_name, more_names, SpellsText, plain_text, labelled, SpellsViews, no_views, one_view, SpellsCalled, by_word, by_method, SpellsBinding, binds_value, binds_severed, binds_names, SpellsStatement, binds, my_binds, assigns, shows_text, shows, shows_info, severs, reshapes, undefs, lists_names, dumps, flows, defines, watches, unwatches}
 use Rattle.pdl_syntax.specs.WellMade.{IsCount, AreArrays, AreArgArrays, IsCall, IsWellMade}
 
 record SignedIs (n : ℕ) (z : ℤ) : Type 0 where
@@ -138,6 +138,7 @@ statement_made lists (reshapes h) e all = (all.0, (arrays lists h e).1 tt)
 statement_made lists undefs e all = all.1.0
 statement_made lists lists_names e all = tt
 statement_made lists dumps e all = tt
+statement_made lists (flows h formula arrow) e all = (all.1.0, formula, arrays lists h e)
 statement_made lists (defines h k) e all =
     let signature = text_holds h all.1.1.1.1 in
     (all.1.1.0, signature.0, (text_holds k signature.1.1).0)

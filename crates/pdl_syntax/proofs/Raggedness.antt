@@ -7,7 +7,7 @@ use Rattle.pdl_lexemes.specs.declared.Lexeme.{Lexeme}
 use Rattle.pdl_lexemes.specs.declared.Lexeme.TheVariants.{Name, Keyword, Word, Number, Quoted, Open, Close, Comma, Equals, Arrow, FatArrow, Assign, Operator, Prefix}
 use Rattle.pdl_lexemes.specs.declared.WordKind.{WordKind}
 use Rattle.pdl_lexemes.specs.declared.WordKind.TheVariants.{View as IsView, OfType}
-use Rattle.pdl_lexemes.specs.declared.Keyword.TheVariants.{My, Print, Undef, Vars, Dump, PpDef, Watch, Unwatch, Pdl, Info, Sever, Reshape}
+use Rattle.pdl_lexemes.specs.declared.Keyword.TheVariants.{My, Print, Undef, Vars, Dump, Flow, PpDef, Watch, Unwatch, Pdl, Info, Sever, Reshape}
 use Rattle.pdl_elem.specs.declared.BinaryOp.TheVariants.{Sub}
 use Rattle.pdl_lexemes.specs.Lists.{HoldsRagged}
 use Rattle.pdl_lexemes.specs.Depth.{without_shape, ragged_in}
@@ -16,7 +16,7 @@ use Rattle.pdl_syntax.specs.Tree.{Tree}
 use Rattle.pdl_syntax.specs.Grammar.{literal_of, Spells, Part, an_expr, a_postfix, a_primary, an_arg, some_args, closed_args, maybe_args, same, joined, once, negated, prefixed, plain, bare, method, a_number, a_name, list, round_list, called, round, a_value, a_text, a_type, one, more as more_args, no_args, all_args, without, within}
 use Rattle.pdl_syntax.specs.Ragged.{is_ragged, are_ragged, in_views, in_statement}
 use Rattle.pdl_syntax.specs.StatementTree.{StatementTree, View}
-use Rattle.pdl_syntax.specs.Statements.{SpellsBrackets, no_brackets, brackets, SpellsNames, one_name, more_names, SpellsViews, no_views, one_view, SpellsText, plain_text, labelled, SpellsCalled, by_word, by_method, SpellsBinding, binds_value, binds_severed, binds_names, SpellsStatement, binds, my_binds, assigns, shows_text, shows, shows_info, severs, reshapes, undefs, lists_names, dumps, defines, watches, unwatches}
+use Rattle.pdl_syntax.specs.Statements.{SpellsBrackets, no_brackets, brackets, SpellsNames, one_name, more_names, SpellsViews, no_views, one_view, SpellsText, plain_text, labelled, SpellsCalled, by_word, by_method, SpellsBinding, binds_value, binds_severed, binds_names, SpellsStatement, binds, my_binds, assigns, shows_text, shows, shows_info, severs, reshapes, undefs, lists_names, dumps, flows, defines, watches, unwatches}
 
 or_none : (b : Bool) → (b || false) ≡ b
 or_none true = refl
@@ -140,6 +140,8 @@ module _ (scan : RaggedIsScanned) (arrays : ListsAreArrays) where
   statement_scanned (undefs {w = w}) = scan.passes (Keyword Undef) (Name w ∷ []) refl ∙ scan.passes (Name w) [] refl
   statement_scanned lists_names = scan.passes (Keyword Vars) [] refl
   statement_scanned dumps = scan.passes (Keyword Dump) [] refl
+  statement_scanned (flows {w = w} {ts = ts} h formula arrow) =
+      scan.passes (Keyword Flow) (Name w ∷ Equals ∷ ts) refl ∙ scan.passes (Name w) (Equals ∷ ts) refl ∙ scan.passes Equals ts refl ∙ value_scanned h
   statement_scanned (defines {w = w} {ts = ts} {us = us} h k) =
       scan.passes (Keyword PpDef) (Open ∷ Quoted w ∷ Comma ∷ ts) refl ∙ scan.passes Open (Quoted w ∷ Comma ∷ ts) refl
       ∙ scan.passes (Quoted w) (Comma ∷ ts) refl ∙ scan.passes Comma ts refl

@@ -6,10 +6,11 @@ use Rattle.pdl_lexemes.specs.declared.Span.{Span}
 use Rattle.pdl_lexemes.specs.declared.WordKind.{WordKind}
 use Rattle.pdl_lexemes.specs.declared.WordKind.TheVariants.{View as IsView, Pars, Code}
 use Rattle.pdl_lexemes.specs.declared.Keyword.{Keyword as AnyKeyword}
-use Rattle.pdl_lexemes.specs.declared.Keyword.TheVariants.{My, Print, Undef, Vars, Dump, PpDef, Watch, Unwatch, Info, Sever, Reshape}
+use Rattle.pdl_lexemes.specs.declared.Keyword.TheVariants.{My, Print, Undef, Vars, Dump, Flow, PpDef, Watch, Unwatch, Info, Sever, Reshape}
 use Rattle.pdl_lexemes.specs.declared.Lexeme.{Lexeme}
 use Rattle.pdl_lexemes.specs.declared.Lexeme.TheVariants.{Name, Keyword, Word, Number, Quoted, Open, Close, Comma, Equals, Arrow, Assign}
 use Rattle.pdl_lexemes.specs.Bytes.{bytes_at}
+use Rattle.pdl_lexemes.specs.Depth.{has_arrow}
 use Rattle.pdl_lexemes.specs.Lists.{signed}
 use Rattle.pdl_lexemes.specs.Laws.{ListsAreRead}
 use Rattle.pdl_lemmas.specs.Options.{some_inj, then_elim, choose}
@@ -17,8 +18,9 @@ use Rattle.pdl_lexemes.specs.Peeks.{Read, after, after_keyword, after_reshape, a
 use Rattle.pdl_syntax.specs.Tree.{Tree, Args, call, none, value}
 use Rattle.pdl_syntax.specs.Grammar.{Spells, an_expr, a_postfix, called}
 use Rattle.pdl_syntax.specs.ExpressionReading.{Kind, maybe_at, closed_at, primary_at, methods_at, postfix_at, grown_at, reader}
-use Rattle.pdl_syntax.specs.StatementTree.{StatementTree, View, bind, bind_list, assign, show, show_text, sever, reshape, vars, dump, pp_def, watch, unwatch}
-use Rattle.pdl_syntax.specs.Statements.{SpellsBrackets, no_brackets, brackets, SpellsNames, one_name, more_names, SpellsViews, no_views, one_view, SpellsText, plain_text, labelled, SpellsCalled, by_word, by_method, SpellsBinding, binds_value, binds_severed, binds_names, SpellsStatement, binds, my_binds, assigns, shows_text, shows, shows_info, severs, reshapes, undefs, lists_names, dumps, defines, watches, unwatches}
+use Rattle.pdl_syntax.specs.Formulas.{is_formula}
+use Rattle.pdl_syntax.specs.StatementTree.{StatementTree, View, bind, bind_list, assign, show, show_text, sever, reshape, vars, dump, flow, pp_def, watch, unwatch}
+use Rattle.pdl_syntax.specs.Statements.{SpellsBrackets, no_brackets, brackets, SpellsNames, one_name, more_names, SpellsViews, no_views, one_view, SpellsText, plain_text, labelled, SpellsCalled, by_word, by_method, SpellsBinding, binds_value, binds_severed, binds_names, SpellsStatement, binds, my_binds, assigns, shows_text, shows, shows_info, severs, reshapes, undefs, lists_names, dumps, flows, defines, watches, unwatches}
 use Rattle.pdl_syntax.specs.StatementReading.{at_end, texts_at, code_at, define_at, undef_at, watch_at, names_at, all_names_at, expression_to_end_at, behind_at, valued_at, called_step, called_at, bind_at, bind_list_at, views_at, assignment_at, statement_of_name_at, binding_at, show_at, statement_at, read_statement}
 use Rattle.pdl_syntax.proofs.Turns.{methods_stop, methods_turn}
 use Rattle.pdl_syntax.proofs.Complete.{Ends, ends_nothing, Methods, complete, finished, read_whole, read_postfix, begins, shorter}
@@ -281,6 +283,11 @@ module _ (lists : ListsAreRead) (source : List ℕ) (n : ℕ) where
   unfolding statement_at show_at
   show_read t info ts q i = rw q (rw i)
 
+  flow_read : (w : Span) (t : Tree) (ts : List Lexeme) → is_formula t ≡ true → has_arrow ts ≡ false → expression_to_end_at source f ts ≡ Some t →
+      statement_at source f (Keyword Flow ∷ Name w ∷ Equals ∷ ts) ≡ Some (flow (bytes_at source w) t)
+  unfolding statement_at
+  flow_read w t ts formula arrow h = rw h (rw (formula, arrow) refl)
+
   keyword_reads : (ts : List Lexeme) → (statement_at source f (Keyword Undef ∷ ts) ≡ undef_at source ts)
       × (statement_at source f (Keyword Vars ∷ ts) ≡ at_end vars ts)
       × (statement_at source f (Keyword PpDef ∷ ts) ≡ define_at source ts)
@@ -309,6 +316,7 @@ module _ (lists : ListsAreRead) (source : List ℕ) (n : ℕ) where
   statement_complete (undefs {w = w}) le = (keyword_reads (Name w ∷ [])).0
   statement_complete lists_names le = (keyword_reads []).1
   statement_complete dumps le = (keyword_reads []).5
+  statement_complete (flows {w = w} {t = t} {ts = ts} h formula arrow) le = flow_read w t ts formula arrow (ended_complete t ts (omega arith) h)
   statement_complete (defines {w = w} {signature = signature} {code = code} {ts = ts} {us = us} h k) le =
       (keyword_reads (Open ∷ Quoted w ∷ Comma ∷ ts)).2 ∙ define_complete source w signature code ts us h k
   statement_complete (watches {w = w} {n = m} {z = z} e) le = (keyword_reads (Name w ∷ Comma ∷ Number m ∷ [])).3 ∙ watch_complete source w m z e

@@ -1,13 +1,15 @@
 -- What the reader of statements takes is spelled.
-use Rattle.std.proofs.Common.{◌≡◌, ℕ, ℤ, zero, suc, ◌<◌, ◌≤◌, List, [], ◌∷◌, ◌++◌, length, Bool, true, false, ◌||◌, nat_lt, Option, Some, None, option_map, option_and_then, if◌then◌else◌, refl, ap, sym, ◌∙◌, subst, arith, true≢false, ltb-true}
+use Rattle.std.proofs.Common.{◌≡◌, ℕ, ℤ, zero, suc, ◌<◌, ◌≤◌, List, [], ◌∷◌, ◌++◌, length, Bool, true, false, ◌||◌, nat_lt, Option, Some, None, option_map, option_and_then, if◌then◌else◌, refl, ap, sym, ◌∙◌, subst, arith, true≢false, ltb-true, not, ◌&&◌}
 use Rattle.pdl_lexemes.specs.declared.AssignOp.{AssignOp}
 use Rattle.pdl_lexemes.specs.declared.Span.{Span}
 use Rattle.pdl_lexemes.specs.declared.WordKind.TheVariants.{View as IsView, Pars, Code}
 use Rattle.pdl_lexemes.specs.declared.Keyword.{Keyword as AnyKeyword}
-use Rattle.pdl_lexemes.specs.declared.Keyword.TheVariants.{My, Print, Undef, Vars, Dump, PpDef, Watch, Unwatch, Info, Sever, Reshape}
+use Rattle.pdl_lexemes.specs.declared.Keyword.TheVariants.{My, Print, Undef, Vars, Dump, Flow, PpDef, Watch, Unwatch, Info, Sever, Reshape}
 use Rattle.pdl_lexemes.specs.declared.Lexeme.{Lexeme}
 use Rattle.pdl_lexemes.specs.declared.Lexeme.TheVariants.{Name, Keyword, Word, Number, Quoted, Open, Close, Comma, Equals, Arrow, FatArrow, Assign}
 use Rattle.pdl_lexemes.specs.Bytes.{bytes_at}
+use Rattle.std.proofs.lemmas.Bool.{and_parts, not-true}
+use Rattle.pdl_lexemes.specs.Depth.{has_arrow}
 use Rattle.pdl_lexemes.specs.Lists.{signed}
 use Rattle.pdl_lemmas.specs.Options.{some_inj, none_some, then_elim, map_elim, choose_elim, choose}
 use Rattle.pdl_lexemes.specs.Laws.{ListsAreRead}
@@ -15,9 +17,10 @@ use Rattle.pdl_lexemes.specs.Peeks.{Read, after, after_keyword, after_reshape, a
 use Rattle.pdl_syntax.specs.Tree.{Tree, none, value}
 use Rattle.pdl_syntax.specs.Grammar.{Spells, an_expr, a_postfix, a_primary, closed_args, maybe_args, bare, method, a_number, a_name, list, round_list, called, round}
 use Rattle.pdl_syntax.specs.ExpressionReading.{Kind, expression, maybe_at, closed_at, primary_at, methods_at, postfix_at, level_at, grown_at, reader}
-use Rattle.pdl_syntax.specs.StatementTree.{StatementTree, View, bind, bind_list, assign, show, show_text, sever, reshape, undef, vars, dump, watch, unwatch}
-use Rattle.pdl_syntax.specs.Statements.{SpellsBrackets, no_brackets, brackets, SpellsNames, one_name, more_names, SpellsViews, no_views, one_view, SpellsText, plain_text, labelled, SpellsCalled, by_word, by_method, SpellsBinding, binds_value, binds_severed, binds_names, SpellsStatement, binds, my_binds, assigns, shows_text, shows, shows_info, severs, reshapes, undefs, lists_names, dumps, defines, watches, unwatches}
-use Rattle.pdl_syntax.specs.StatementReading.{at_end, texts_at, code_at, signature_at, define_at, undef_at, watch_at, names_at, all_names_at, expression_to_end_at, behind_at, valued_at, called_step, called_at, bind_at, bind_names, bind_list_at, views_at, assign_value, assignment_at, reshape_at, sever_at, statement_of_name_at, bind_name, binding_at, value_at, show_at, statement_at}
+use Rattle.pdl_syntax.specs.Formulas.{is_formula}
+use Rattle.pdl_syntax.specs.StatementTree.{StatementTree, View, bind, bind_list, assign, show, show_text, sever, reshape, undef, vars, dump, flow, watch, unwatch}
+use Rattle.pdl_syntax.specs.Statements.{SpellsBrackets, no_brackets, brackets, SpellsNames, one_name, more_names, SpellsViews, no_views, one_view, SpellsText, plain_text, labelled, SpellsCalled, by_word, by_method, SpellsBinding, binds_value, binds_severed, binds_names, SpellsStatement, binds, my_binds, assigns, shows_text, shows, shows_info, severs, reshapes, undefs, lists_names, dumps, flows, defines, watches, unwatches}
+use Rattle.pdl_syntax.specs.StatementReading.{at_end, texts_at, code_at, signature_at, define_at, undef_at, watch_at, names_at, all_names_at, expression_to_end_at, behind_at, valued_at, called_step, called_at, bind_at, bind_names, bind_list_at, views_at, assign_value, assignment_at, reshape_at, sever_at, statement_of_name_at, bind_name, binding_at, value_at, show_at, formula_at, flow_value_at, flow_at, statement_at}
 use Rattle.pdl_syntax.proofs.Peeks.{after_is, quoted_is}
 use Rattle.pdl_syntax.proofs.Sound.{closed_sound, maybe_sound, primary_sound, methods_sound, postfix_sound, level_sound, reader_sound_expr}
 use Rattle.pdl_syntax.proofs.Growing.{level_grown}
@@ -387,6 +390,17 @@ module _ (lists : ListsAreRead) (source : List ℕ) (n : ℕ) where
       let end = end_is dump ts e in
       subst (Stated source (Keyword Dump ∷ ts)) end.same (subst (λ vs. Stated source (Keyword Dump ∷ vs) dump) (sym end.empty) dumps)
 
+  flow_sound : (ts : List Lexeme) (s : StatementTree) → flow_at source f ts ≡ Some s → Stated source (Keyword Flow ∷ ts) s
+  flow_sound ts s e =
+      then_elim (Stated source (Keyword Flow ∷ ts) s) (λ x. option_and_then (flow_value_at source f (bytes_at source x.0)) (after Equals x.1)) (name_at ts) e
+      (λ x h k. then_elim (Stated source (Keyword Flow ∷ ts) s) (flow_value_at source f (bytes_at source x.0)) (after Equals x.1) k
+      (λ us l m. then_elim (Stated source (Keyword Flow ∷ ts) s) (formula_at (bytes_at source x.0) us) (expression_to_end_at source f us) m
+      (λ t c d. test_elim (Stated source (Keyword Flow ∷ ts) s) (is_formula t && not (has_arrow us)) (Some (flow (bytes_at source x.0) t)) d
+      (λ test same. let tests = and_parts (is_formula t) (not (has_arrow us)) test in
+      subst (λ vs. Stated source (Keyword Flow ∷ vs) s) (sym (name_is ts x h ∙ ap (λ v. Name x.0 ∷ v) (after_is Equals x.1 l)))
+      (subst (Stated source (Keyword Flow ∷ Name x.0 ∷ Equals ∷ us)) (some_inj same)
+      (flows (ended_sound us t c) tests.0 (not-true (has_arrow us) tests.1)))))))
+
   -- a statement that is read is spelled
   pub statement_sound : (ts : List Lexeme) (s : StatementTree) → length ts ≤ n → statement_at source f ts ≡ Some s → SpellsStatement source s ts
   unfolding statement_at
@@ -396,6 +410,7 @@ module _ (lists : ListsAreRead) (source : List ℕ) (n : ℕ) where
   statement_sound (Keyword Undef ∷ ts) s le e = undef_sound source ts s e
   statement_sound (Keyword Vars ∷ ts) s le e = vars_sound ts s e
   statement_sound (Keyword Dump ∷ ts) s le e = dump_sound ts s e
+  statement_sound (Keyword Flow ∷ ts) s le e = flow_sound ts s e
   statement_sound (Keyword PpDef ∷ ts) s le e = define_sound source ts s e
   statement_sound (Keyword Watch ∷ ts) s le e = watch_sound source ts s e
   statement_sound (Keyword Unwatch ∷ ts) s le e = unwatch_sound source ts s e

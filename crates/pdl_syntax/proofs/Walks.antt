@@ -1,4 +1,4 @@
--- The look for ragged lists goes down in the tree, and over arguments and views one by one.
+-- The looks for ragged lists and for formulas go down in the tree, and over arguments one by one.
 use Rattle.std.proofs.Common.{◌≡◌, ℕ, zero, suc, ◌+◌, ◌<◌, ◌≤◌, List, [], ◌∷◌, length, drop, Bool, true, false, ◌||◌, refl, sym, ap, ◌∙◌, arith, Vec, Global}
 use Rattle.std.specs.Prelude.{slice_index_or}
 use Rattle.std.proofs.Math.Bool.{or_assoc}
@@ -6,6 +6,7 @@ use Rattle.pdl_syntax.specs.declared.tree.Arg.{Arg, Value, Str, OfType}
 use Rattle.pdl_syntax.specs.declared.tree.Expr.{Expr, Call}
 use Rattle.pdl_syntax.specs.Tree.{Tree, Args, number, named, literal, unary, binary, call, none, value, text, of_type}
 use Rattle.pdl_syntax.specs.TreeOf.{tree_of, args_of, argument_of}
+use Rattle.pdl_syntax.specs.Formulas.{is_one_formula}
 use Rattle.pdl_syntax.specs.Ragged.{are_ragged}
 use Rattle.pdl_syntax.proofs.Trees.{tree_of_call}
 
@@ -67,3 +68,17 @@ ragged_from (x ∷ args) (suc i) a lt at = ragged_from args i a (omega arith) at
 -- the tree of a call
 pub tree_is : (e : Expr) (f : List ℕ) (args : Vec Arg Global) (xs : List Arg) → e ≡ Call f args → xs ≡ args.items → tree_of e ≡ call f (args_of xs none)
 tree_is e f args xs is items = ap tree_of is ∙ tree_of_call f args ∙ ap (λ ys. call f (args_of ys none)) (sym items)
+
+-- two arguments or more are no formula alone
+several : (rest : List Arg) (a b : Arg) (front : Args) → is_one_formula (args_of rest (argument_of b (argument_of a front))) ≡ false
+several [] (Value e) (Value f) front = refl
+several [] (Str t) (Value f) front = refl
+several [] (OfType ty) (Value f) front = refl
+several [] a (Str t) front = refl
+several [] a (OfType ty) front = refl
+several (c ∷ rest) a b front = several rest b c (argument_of a front)
+
+pub no_one_formula : (args : List Arg) → 2 ≤ length args → is_one_formula (args_of args none) ≡ false
+no_one_formula [] le = absurd (omega arith)
+no_one_formula (a ∷ []) le = absurd (omega arith)
+no_one_formula (a ∷ b ∷ rest) le = several rest a b none

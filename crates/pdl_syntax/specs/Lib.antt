@@ -1,6 +1,7 @@
 pub mod Tree
 pub mod TreeOf
 pub mod Grammar
+pub mod Formulas
 pub mod ExpressionReading
 pub mod StatementTree
 pub mod Statements

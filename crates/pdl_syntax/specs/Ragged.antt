@@ -3,7 +3,7 @@ use Rattle.std.specs.Prelude.{ℕ, ℤ, nat_eq, List, length, Bool, false, not, 
 use Rattle.std.specs.List.{list_any}
 use Rattle.pdl_shape.specs.Shape.{size_of}
 use Rattle.pdl_syntax.specs.Tree.{Tree, Args, number, named, literal, unary, binary, call, none, value, text, of_type}
-use Rattle.pdl_syntax.specs.StatementTree.{StatementTree, View, bind, bind_list, assign, show, show_text, sever, reshape, undef, vars, dump, pp_def, watch, unwatch}
+use Rattle.pdl_syntax.specs.StatementTree.{StatementTree, View, bind, bind_list, assign, show, show_text, sever, reshape, undef, vars, dump, flow, pp_def, watch, unwatch}
 
 -- whether a literal has other numbers than its dimensions say
 abbrev pub is_no_array : List ℕ → List ℤ → Bool
@@ -42,6 +42,7 @@ in_statement (reshape name args) = are_ragged args
 in_statement (undef name) = false
 in_statement vars = false
 in_statement dump = false
+in_statement (flow name t) = is_ragged t
 in_statement (pp_def name signature code) = false
 in_statement (watch name slot) = false
 in_statement (unwatch slot) = false

@@ -1,17 +1,19 @@
 -- How a statement is read: the one way in which its lexemes spell it, if there is one.
-use Rattle.std.specs.Prelude.{ℕ, zero, suc, nat_lt, List, [], ◌∷◌, ◌++◌, length, Bool, true, false, ◌||◌, Option, Some, None, option_map, option_and_then, if◌then◌else◌}
+use Rattle.std.specs.Prelude.{ℕ, zero, suc, nat_lt, List, [], ◌∷◌, ◌++◌, length, Bool, true, false, not, ◌&&◌, ◌||◌, Option, Some, None, option_map, option_and_then, if◌then◌else◌}
 use Rattle.pdl_lemmas.specs.Options.{choose}
 use Rattle.pdl_lexemes.specs.declared.Span.{Span}
 use Rattle.pdl_lexemes.specs.declared.WordKind.TheVariants.{Pars, Code}
 use Rattle.pdl_lexemes.specs.declared.Keyword.{Keyword as AnyKeyword}
-use Rattle.pdl_lexemes.specs.declared.Keyword.TheVariants.{My, Print, Undef, Vars, Dump, PpDef, Watch, Unwatch, Info, Sever}
+use Rattle.pdl_lexemes.specs.declared.Keyword.TheVariants.{My, Print, Undef, Vars, Dump, Flow, PpDef, Watch, Unwatch, Info, Sever}
 use Rattle.pdl_lexemes.specs.declared.Lexeme.{Lexeme}
 use Rattle.pdl_lexemes.specs.declared.Lexeme.TheVariants.{Name, Keyword, Open, Close, Equals, Comma}
 use Rattle.pdl_lexemes.specs.Bytes.{bytes_at}
+use Rattle.pdl_lexemes.specs.Depth.{has_arrow}
 use Rattle.pdl_lexemes.specs.Peeks.{Read, after, after_keyword, after_reshape, after_names, after_label, prefix_at, quoted_at, name_at, view_at, assign_at, slot_at, is_brackets, begins_word}
 use Rattle.pdl_syntax.specs.Tree.{Tree, none}
 use Rattle.pdl_syntax.specs.ExpressionReading.{Kind, expression, maybe_at, closed_at, primary_at, methods_at, postfix_at, grown_at, reader}
-use Rattle.pdl_syntax.specs.StatementTree.{StatementTree, View, bind, bind_list, assign, show, show_text, sever, reshape, undef, vars, dump, pp_def, watch, unwatch}
+use Rattle.pdl_syntax.specs.Formulas.{is_formula}
+use Rattle.pdl_syntax.specs.StatementTree.{StatementTree, View, bind, bind_list, assign, show, show_text, sever, reshape, undef, vars, dump, flow, pp_def, watch, unwatch}
 
 -- what there is where nothing follows
 abbrev pub at_end : {A : Type 0} → A → List Lexeme → Option A
@@ -21,6 +23,10 @@ at_end x (t ∷ ts) = None
 -- the sever of a name
 abbrev pub sever_at : List ℕ → List Lexeme → Option StatementTree
 sever_at name ts = if is_brackets ts then Some (sever name) else None
+
+-- the flow of a formula in which no arrow stands
+abbrev pub formula_at : List ℕ → List Lexeme → Tree → Option StatementTree
+formula_at name ts t = if is_formula t && not (has_arrow ts) then Some (flow name t) else None
 
 module _ (source : List ℕ) where
   -- a definition of the three strings at these places
@@ -150,6 +156,15 @@ module _ (source : List ℕ) (f : Kind → List Lexeme → Read Tree) where
   show_at ts =
       choose (value_at ts) (λ x. at_end (show_text (bytes_at source x.0)) x.1) (quoted_at ts)
 
+  -- a flow of a name from its formula on, and from its name on
+  abbrev pub flow_value_at : List ℕ → List Lexeme → Option StatementTree
+  flow_value_at name ts = option_and_then (formula_at name ts) (expression_to_end_at ts)
+
+  abbrev pub flow_at : List Lexeme → Option StatementTree
+  flow_at ts =
+      option_and_then (λ x. option_and_then (flow_value_at (bytes_at source x.0))
+      (after Equals x.1)) (name_at ts)
+
   -- all lexemes as a statement
   unfoldable pub statement_at : List Lexeme → Option StatementTree
   statement_at [] = None
@@ -158,6 +173,7 @@ module _ (source : List ℕ) (f : Kind → List Lexeme → Read Tree) where
   statement_at (Keyword Undef ∷ ts) = undef_at source ts
   statement_at (Keyword Vars ∷ ts) = at_end vars ts
   statement_at (Keyword Dump ∷ ts) = at_end dump ts
+  statement_at (Keyword Flow ∷ ts) = flow_at ts
   statement_at (Keyword PpDef ∷ ts) = define_at source ts
   statement_at (Keyword Watch ∷ ts) = watch_at source ts
   statement_at (Keyword Unwatch ∷ ts) = option_map unwatch (slot_at ts)

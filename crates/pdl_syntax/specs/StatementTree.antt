@@ -2,7 +2,7 @@
 use Rattle.std.specs.Prelude.{ℕ, List, Bool, map}
 use Rattle.pdl_lexemes.specs.declared.AssignOp.{AssignOp}
 use Rattle.pdl_syntax.specs.declared.tree.Statement.{Statement}
-use Rattle.pdl_syntax.specs.declared.tree.Statement.TheVariants.{Bind, BindList, Assign, Show, ShowText, Sever, Reshape, Undef, Vars, Dump, PpDef, Watch, Unwatch}
+use Rattle.pdl_syntax.specs.declared.tree.Statement.TheVariants.{Bind, BindList, Assign, Show, ShowText, Sever, Reshape, Undef, Vars, Dump, Flow, PpDef, Watch, Unwatch}
 use Rattle.pdl_syntax.specs.declared.tree.ViewCall.{ViewCall}
 use Rattle.pdl_syntax.specs.Tree.{Tree, Args, none}
 use Rattle.pdl_syntax.specs.TreeOf.{tree_of, args_of}
@@ -22,6 +22,7 @@ pub data StatementTree : Type 0 where
   undef : List ℕ → StatementTree
   vars : StatementTree
   dump : StatementTree
+  flow : List ℕ → Tree → StatementTree
   pp_def : List ℕ → List ℕ → List ℕ → StatementTree
   watch : List ℕ → ℕ → StatementTree
   unwatch : ℕ → StatementTree
@@ -42,6 +43,7 @@ statement_of (Reshape name sizes) = reshape name (args_of sizes.items none)
 statement_of (Undef name) = undef name
 statement_of Vars = vars
 statement_of Dump = dump
+statement_of (Flow name value) = flow name (tree_of value)
 statement_of (PpDef name signature code) = pp_def name signature code
 statement_of (Watch name slot) = watch name slot
 statement_of (Unwatch slot) = unwatch slot

@@ -4,14 +4,16 @@ use Rattle.pdl_lexemes.specs.declared.AssignOp.{AssignOp}
 use Rattle.pdl_lexemes.specs.declared.Span.{Span}
 use Rattle.pdl_lexemes.specs.declared.WordKind.{WordKind}
 use Rattle.pdl_lexemes.specs.declared.WordKind.TheVariants.{View as IsView, Pars, Code}
-use Rattle.pdl_lexemes.specs.declared.Keyword.TheVariants.{My, Print, Undef, Vars, Dump, PpDef, Watch, Unwatch, Info, Sever, Reshape}
+use Rattle.pdl_lexemes.specs.declared.Keyword.TheVariants.{My, Print, Undef, Vars, Dump, Flow, PpDef, Watch, Unwatch, Info, Sever, Reshape}
 use Rattle.pdl_lexemes.specs.declared.Lexeme.{Lexeme}
 use Rattle.pdl_lexemes.specs.declared.Lexeme.TheVariants.{Name, Keyword, Word, Number, Quoted, Open, Close, Comma, Equals, Arrow, FatArrow, Assign}
 use Rattle.pdl_lexemes.specs.Bytes.{bytes_at}
+use Rattle.pdl_lexemes.specs.Depth.{has_arrow}
 use Rattle.pdl_lexemes.specs.Lists.{signed}
 use Rattle.pdl_syntax.specs.Tree.{Tree, Args, call, none, value}
 use Rattle.pdl_syntax.specs.Grammar.{Spells, an_expr, a_postfix, closed_args, maybe_args}
-use Rattle.pdl_syntax.specs.StatementTree.{StatementTree, View, bind, bind_list, assign, show, show_text, sever, reshape, undef, vars, dump, pp_def, watch, unwatch}
+use Rattle.pdl_syntax.specs.Formulas.{is_formula}
+use Rattle.pdl_syntax.specs.StatementTree.{StatementTree, View, bind, bind_list, assign, show, show_text, sever, reshape, undef, vars, dump, flow, pp_def, watch, unwatch}
 
 -- `["(" ")"]` at the end
 pub data SpellsBrackets : List Lexeme → Type 0 where
@@ -93,6 +95,9 @@ pub data SpellsStatement (source : List ℕ) : StatementTree → List Lexeme →
       (Keyword Undef ∷ Name w ∷ [])
   lists_names : SpellsStatement source vars (Keyword Vars ∷ [])
   dumps : SpellsStatement source dump (Keyword Dump ∷ [])
+  flows : {w : Span} {t : Tree} {ts : List Lexeme}
+      → Spells source (an_expr 7 t) ts [] → is_formula t ≡ true → has_arrow ts ≡ false
+      → SpellsStatement source (flow (bytes_at source w) t) (Keyword Flow ∷ Name w ∷ Equals ∷ ts)
   defines : {w : Span} {signature code : List ℕ} {ts us : List Lexeme}
       → SpellsText source Pars signature ts (Comma ∷ us) →
       SpellsText source Code code us (Close ∷ [])

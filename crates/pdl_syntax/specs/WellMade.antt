@@ -1,11 +1,12 @@
 -- What holds of each statement that is read. Its list literals are arrays: as many numbers as their
--- dimensions say, all of their type; its names and its texts can be written in a script; and the
--- value of a list binding is a call.
-use Rattle.std.specs.Prelude.{◌≤ℤ◌, ℤ, pos, All}
+-- dimensions say, all of their type; its names and its texts can be written in a script; the value
+-- of a list binding is a call, and that of a flow a formula.
+use Rattle.std.specs.Prelude.{◌≡◌, ◌≤ℤ◌, ℤ, pos, true, All}
 use Rattle.pdl_buf.specs.Made.{IsMade}
 use Rattle.pdl_lexemes.specs.Texts.{IsName, IsQuotable}
 use Rattle.pdl_syntax.specs.Tree.{Tree, Args, number, named, literal, unary, binary, call, none, value, text, of_type}
-use Rattle.pdl_syntax.specs.StatementTree.{StatementTree, bind, bind_list, assign, show, show_text, sever, reshape, undef, vars, dump, pp_def, watch, unwatch}
+use Rattle.pdl_syntax.specs.Formulas.{is_formula}
+use Rattle.pdl_syntax.specs.StatementTree.{StatementTree, bind, bind_list, assign, show, show_text, sever, reshape, undef, vars, dump, flow, pp_def, watch, unwatch}
 
 -- a number from 0 to 9223372036854775807
 pub record IsCount (z : ℤ) : Type 0 where
@@ -34,7 +35,7 @@ IsCall (call name args) = Unit {0}
 IsCall _ = ⊥
 
 -- Names are names, and texts are ones that a string can hold; each literal in a statement is an
--- array, and what several names are bound to is a call.
+-- array; what several names are bound to is a call, and what a flow equals is a formula.
 abbrev pub IsWellMade : StatementTree → Type 0
 IsWellMade (bind name t severs) = IsName name × AreArrays t
 IsWellMade (bind_list names t) = All IsName names × IsCall t × AreArrays t
@@ -47,6 +48,7 @@ IsWellMade (reshape name args) = IsName name × AreArgArrays args
 IsWellMade (undef name) = IsName name
 IsWellMade vars = Unit {0}
 IsWellMade dump = Unit {0}
+IsWellMade (flow name t) = IsName name × (is_formula t ≡ true) × AreArrays t
 IsWellMade (pp_def name signature code) =
     IsQuotable name × IsQuotable signature × IsQuotable code
 IsWellMade (watch name slot) = IsName name

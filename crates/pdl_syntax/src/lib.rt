@@ -4,6 +4,7 @@
 
 mod build;
 mod expr;
+mod formula;
 mod laws;
 mod levels;
 mod literal;

@@ -73,7 +73,8 @@ pub fn in_statement(statement: &Statement) -> bool
     match statement {
         Statement::Bind { value, .. }
         | Statement::BindList { value, .. }
-        | Statement::Show { value, .. } => is_ragged(value),
+        | Statement::Show { value, .. }
+        | Statement::Flow { value, .. } => is_ragged(value),
         Statement::Assign { target, value, .. } => in_views(&target.views) || is_ragged(value),
         Statement::Reshape { sizes, .. } => are_ragged(sizes),
         Statement::ShowText { .. }

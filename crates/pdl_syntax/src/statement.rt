@@ -4,10 +4,11 @@ ghost use Rattle.std.specs.Prelude.{◌≡◌, ◌∷◌, option_map, IfOk, IfEr
 ghost use Rattle.pdl_lexemes.specs.Peeks.{slot_at};
 ghost use Rattle.pdl_lexemes.specs.ReadAnswers.{Gives};
 ghost use Rattle.pdl_syntax.specs.Readers.{reads, text_at, with_tree};
-ghost use Rattle.pdl_syntax.specs.StatementReading.{expression_to_end_at, behind_at, valued_at, called_at, bind_at, bind_list_at, binding_at, assignment_at, reshape_at, sever_at, statement_of_name_at, value_at, show_at, undef_at, watch_at, define_at, signature_at, code_at, texts_at, statement_at, at_end};
+ghost use Rattle.pdl_syntax.specs.StatementReading.{expression_to_end_at, behind_at, valued_at, called_at, bind_at, bind_list_at, binding_at, assignment_at, reshape_at, sever_at, statement_of_name_at, value_at, show_at, flow_at, flow_value_at, undef_at, watch_at, define_at, signature_at, code_at, texts_at, statement_at, at_end};
 ghost use Rattle.pdl_syntax.specs.StatementTree.{statement_of, dump, vars, unwatch};
 ghost use Rattle.pdl_syntax.specs.TreeOf.{tree_of};
 
+use crate::formula::is_formula;
 use crate::reader::Reader;
 use crate::tree::{Expr, Statement, Target};
 use pdl_lexemes::{Keyword, Lexeme, Lexemes, Refusal, Span, WordKind};
@@ -37,6 +38,7 @@ impl<'s> Reader<'s> {
             Keyword::Undef => self.undef(tokens),
             Keyword::Vars => vars(tokens),
             Keyword::Dump => dump(tokens),
+            Keyword::Flow => self.flow(tokens),
             Keyword::PpDef => self.define(tokens),
             Keyword::Watch => self.watch(tokens),
             Keyword::Unwatch => unwatch(tokens),
@@ -211,6 +213,28 @@ impl<'s> Reader<'s> {
     {
         let (value, info) = self.valued(Keyword::Info, tokens)?;
         Ok(Statement::Show { value, info })
+    }
+
+    // A flow, behind its keyword.
+    fn flow(&self, tokens: &Lexemes<'_>) -> Result<Statement, Refusal>
+        ensures read { Gives statement_of result (reads flow_at self.now tokens.now) }
+    {
+        let (name, rest) = tokens.name().ok_or(Refusal::Refused)?;
+        let rest = rest.after(Lexeme::Equals).ok_or(Refusal::Refused)?;
+        self.flow_value(name, &rest)
+    }
+
+    // A flow of this name, from its formula on.
+    fn flow_value(&self, name: Span, tokens: &Lexemes<'_>) -> Result<Statement, Refusal>
+        ensures read { Gives statement_of result
+            (reads flow_value_at self.now (text_at self.now name) tokens.now) }
+    {
+        let value = self.expression_to_end(tokens)?;
+        if !is_formula(&value) || tokens.has_arrow() {
+            return Err(Refusal::Refused);
+        }
+        let name = self.name_of(name)?;
+        Ok(Statement::Flow { name, value })
     }
 
     fn undef(&self, tokens: &Lexemes<'_>) -> Result<Statement, Refusal>

@@ -91,6 +91,11 @@ pub enum Statement {
     Vars,
     /// `dump`
     Dump,
+    /// `flow $y = e`. The value is a formula.
+    Flow {
+        name: Name,
+        value: Expr,
+    },
     /// `pp_def("name", Pars => "signature", Code => "code")`
     PpDef {
         name: Text,

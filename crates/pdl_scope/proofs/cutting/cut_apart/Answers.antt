@@ -6,21 +6,25 @@ use Rattle.pdl_world.specs.Swept.{is_listed}
 use Rattle.pdl_shape.specs.Shape.{size_of}
 use Rattle.pdl_world.specs.World.{World, dims_in}
 use Rattle.pdl_engine.specs.State.{State as Engine, ready_steps}
+use Rattle.pdl_scope.specs.Scope.{arrays_of}
+use Rattle.pdl_scope.proofs.FlowsStay.{CutLaws, flows_severed}
 use Rattle.pdl_scope.proofs.Unmoved.{unchanged_held}
 use Rattle.pdl_scope.proofs.Cuts.{held_after, noted_held}
 use Rattle.pdl_scope.proofs.Held.{held_by}
 use Rattle.pdl_scope.proofs.cutting.cut_apart.Goals as goal
 
 pub returns-clause-held : goal.returns-clause-held
-returns-clause-held g c = λ names ws held.
+returns-clause-held g c = λ names ws fs held.
     let e = c.hold_parent.new.engine in
     let left = c.hold_parent.new.leaving.items in
     let v = c.args.id in
-    let h = c.hold_parent.ensures.held names ws held in
+    let h = c.hold_parent.ensures.held names ws fs held in
     let P : World → Type 0 = λ w. IfSome (parent_in w v) (λ p. is_listed left p ≡ true) in
     let parent : P e.world = subst P (sym (ap (λ (s : Engine). s.world) c.hold_parent.ensures.same)) c.hold_parent.ensures.parent in
-    held_after c.sever.result names ws e c.sever.new.self (sever e.world v) left h (c.cut_laws.ensures.numbers e.world v h.whole.sound)
-    (c.keeping_laws.ensures.cut e.world v (held_by names ws ++ left) h.whole.sound h.reached (noted_held (held_by names ws) left (parent_in e.world v) parent))
+    let laws : CutLaws = record { meaning = c.meaning_laws.ensures; shown = c.cut_laws.ensures.elements; numbers = c.cut_laws.ensures.numbers; others = c.cut_laws.ensures.others; uncut = c.cut_laws.ensures.uncut } in
+    held_after c.sever.result names ws fs e c.sever.new.self (sever e.world v) left h (c.cut_laws.ensures.numbers e.world v h.whole.sound)
+    (λ a is. flows_severed laws (arrays_of e) a v fs h.whole.sound is h.whole.flows)
+    (c.keeping_laws.ensures.cut e.world v (held_by names ws fs ++ left) h.whole.sound h.reached (noted_held (held_by names ws fs) left (parent_in e.world v) parent))
     c.sever.ensures.ok c.sever.ensures.err c.sever.ensures.family.holds c.sever.ensures.family.next c.sever.ensures.sound
 
 pub returns-clause-counted : goal.returns-clause-counted

@@ -20,4 +20,5 @@ bind_one-requires-clause-few c =
 pub bind_one-requires-clause-held : goal.bind_one-requires-clause-held
 bind_one-requires-clause-held c =
     let ws = c.requires.held.watches in
-    record { watches = ws; held = c.loop-name.invariant.held ws c.requires.held.held }
+    let fs = c.requires.held.flows in
+    record { watches = ws; flows = fs; held = c.loop-name.invariant.held ws fs c.requires.held.held }

@@ -14,8 +14,8 @@ hold-requires-clause-live c =
 pub hold-requires-clause-room : goal.hold-requires-clause-room
 hold-requires-clause-room c =
     let names = c.requires.held.names in
-    let r = room_for names.arrays names.kernels c.requires.held.watches c.args.engine.now c.args.leaving.now.items c.in-Some.parent c.requires.held.held in
-    omega arith
+    let r = room_for names.arrays names.kernels c.requires.held.watches c.requires.held.flows c.args.engine.now c.args.leaving.now.items c.in-Some.parent c.requires.held.held in
+    omega (arith, r, c.requires.held.held.reads)
 
 pub returns-in-Some-clause-same : goal.returns-in-Some-clause-same
 returns-in-Some-clause-same c =
@@ -31,13 +31,13 @@ returns-in-Some-clause-parent c =
     subst P (sym (sym c.parent.ensures ∙ c.in-Some.is)) (subst L (sym c.note.ensures.items) (noted_last c.args.leaving.now.items p))
 
 pub returns-in-Some-clause-held : goal.returns-in-Some-clause-held
-returns-in-Some-clause-held c = λ names ws held.
+returns-in-Some-clause-held c = λ names ws fs held.
     let p = c.in-Some.parent in
     let e = c.args.engine.now in
     let t = c.hold.new.self in
     let leaving = c.args.leaving.now.items in
     let live = parent_lives c.keeping_laws.ensures.parents e.world c.args.id p held.whole.sound (sym c.parent.ensures ∙ c.in-Some.is) in
-    let E : Engine → Type 0 = λ y. IsHeld (state_in names ws y) y.holds (leaving ++ p ∷ []) in
-    let L : List ℕ → Type 0 = λ vs. IsHeld (state_in names ws t) t.holds vs in
+    let E : Engine → Type 0 = λ y. IsHeld (state_in names ws fs y) y.holds (leaving ++ p ∷ []) in
+    let L : List ℕ → Type 0 = λ vs. IsHeld (state_in names ws fs t) t.holds vs in
     subst L (sym c.note.ensures.items)
-    (subst E (sym c.hold.ensures) (held_noted c.hold_laws.ensures.more c.keeping_laws.ensures.more names ws e p leaving c.holds_law.ensures.each held live))
+    (subst E (sym c.hold.ensures) (held_noted c.hold_laws.ensures.more c.keeping_laws.ensures.more names ws fs e p leaving c.holds_law.ensures.each held live))

@@ -1,32 +1,27 @@
-use Rattle.std.proofs.Common.{refl, arith}
 use Rattle.pdl_scope.proofs.Bounds as bounds
-use Rattle.pdl_scope.proofs.Released as released
+use Rattle.pdl_scope.proofs.Released.{let_go_more}
 use Rattle.pdl_scope.proofs.Held.{lets_go_refl, lets_go_more, all_let_go, next_counted}
 use Rattle.pdl_scope.proofs.holding.release_all.Goals as goal
 
 pub loop-id-init : goal.loop-id-init
 loop-id-init g c = record {
-  lets_go = λ names ws held. lets_go_refl names ws c.args.engine.now c.args.leaving.now held;
-  left = bounds.left_refl c.args.engine.now;
-  counted = λ keeps. refl;
-  waits = released.waits_refl c.args.engine.now (λ v b live is. (c.lazy_law.ensures.waits v b live is).live);
-  written = omega arith;
+  lets_go = λ staying held. lets_go_refl staying c.args.engine.now c.args.leaving.now held;
+  goes_on = λ first start sound h. h;
 }
 
 pub release-requires : goal.release-requires
 release-requires g c =
-    next_counted c.args.engine.now c.loop-id.engine c.args.leaving.now c.loop-id.id-index c.requires.names c.requires.watches c.loop-id-test.true (c.loop-id.invariant.lets_go c.requires.names c.requires.watches c.requires.held)
+    next_counted c.args.engine.now c.loop-id.engine c.args.leaving.now c.loop-id.id-index c.requires.staying c.loop-id-test.true (c.loop-id.invariant.lets_go c.requires.staying c.requires.held)
 
 pub loop-id-preserved : goal.loop-id-preserved
 loop-id-preserved g c =
     let e = c.args.engine.now in
     let t = c.loop-id.engine in
     let n = c.release.new.self in
-    let sound = (c.loop-id.invariant.lets_go c.requires.names c.requires.watches c.requires.held).is_held.whole.sound in
+    let sound = (c.loop-id.invariant.lets_go c.requires.staying c.requires.held).is_held.sound in
     let laws : bounds.Laws = record { kept = c.sweep_laws.ensures.kept; reached = c.sweep_laws.ensures.seen; unwritten = c.hold_laws.ensures.unwritten } in
-    let seen : released.AreSeen n.world t.world = λ v live. bounds.released_seen laws t n _ v sound c.release.ensures.released live in
     record {
-      lets_go = λ names ws held.
+      lets_go = λ staying held.
           lets_go_more (record {
             more = c.keeping_laws.ensures.more;
             reached = c.sweep_laws.ensures.seen;
@@ -37,22 +32,15 @@ loop-id-preserved g c =
             held = c.hold_laws.ensures.held;
             counted = c.hold_laws.ensures.counted;
             others = c.hold_laws.ensures.others;
-          }) names ws e t n c.args.leaving.now c.loop-id.id-index c.loop-id-test.true c.holds_law.ensures.each c.holds_law.ensures.once
-          (c.loop-id.invariant.lets_go names ws held) c.release.ensures.released c.release.ensures.sound;
-      waits = released.waits_more e t n _ seen c.loop-id.invariant.waits c.release.ensures.released;
-      written = released.moved_more e t n _ c.args.steps.now c.loop-id.steps c.release.new.steps c.requires.held.whole.sound c.release.ensures.sound c.loop-id.invariant.left.seen seen c.loop-id.invariant.waits c.release.ensures.released c.loop-id.invariant.written c.release.ensures.counted;
-      left = bounds.left_more laws e t n _ sound c.loop-id.invariant.left c.release.ensures.released;
-      counted = bounds.unmoved laws e t n _ _ _ _ sound c.lazy_law-in-loop-id.ensures c.loop-id.invariant.left c.release.ensures.released c.loop-id.invariant.counted c.release.ensures.counted;
+          }) staying e t n c.args.leaving.now c.loop-id.id-index c.loop-id-test.true c.holds_law.ensures.each c.holds_law.ensures.once
+          (c.loop-id.invariant.lets_go staying held) c.release.ensures.released c.release.ensures.sound;
+      goes_on = λ first start first_sound h.
+          let_go_more laws first t n _ start c.loop-id.steps c.release.new.steps first_sound sound c.release.ensures.sound c.lazy_law.ensures c.release.ensures.released c.release.ensures.counted
+          (c.loop-id.invariant.goes_on first start first_sound h);
     }
 
 pub returns-clause-lets_go : goal.returns-clause-lets_go
-returns-clause-lets_go g c = λ names ws held. all_let_go names ws c.args.engine.now c.loop-id.engine c.args.leaving.now c.loop-id.id-index c.loop-id-test.false (c.loop-id.invariant.lets_go names ws held)
+returns-clause-lets_go g c = λ staying held. all_let_go staying c.args.engine.now c.loop-id.engine c.args.leaving.now c.loop-id.id-index c.loop-id-test.false (c.loop-id.invariant.lets_go staying held)
 
-pub returns-clause-stay : goal.returns-clause-stay
-returns-clause-stay g c = c.loop-id.invariant.left.stay
-
-pub returns-clause-counted : goal.returns-clause-counted
-returns-clause-counted g c = c.loop-id.invariant.counted
-
-pub returns-clause-written : goal.returns-clause-written
-returns-clause-written g c = c.loop-id.invariant.written
+pub returns-clause-goes_on : goal.returns-clause-goes_on
+returns-clause-goes_on g c = c.loop-id.invariant.goes_on

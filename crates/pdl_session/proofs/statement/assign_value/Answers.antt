@@ -1,7 +1,10 @@
+use Rattle.std.proofs.Common.{◌+◌, ◌≤◌, length, subst, ◌∙◌}
 use Rattle.std.specs.Prelude.{map}
+use Rattle.pdl_machine.specs.Flows.{Flows}
 use Rattle.pdl_syntax.specs.TreeOf.{tree_of}
 use Rattle.pdl_syntax.specs.StatementTree.{view_of}
 use Rattle.pdl_machine.specs.Step.{target, assigned}
+use Rattle.pdl_session.proofs.Affected.{assigned_affected, late_unflowed}
 use Rattle.pdl_session.proofs.Bounded.{no_views_of, target_refused, value_refused, assigned_plainly, assigned_readable}
 use Rattle.pdl_session.proofs.Facts.{ends_at, grows_trans}
 use Rattle.pdl_session.proofs.Assigning.{assigned_told}
@@ -12,8 +15,8 @@ use Rattle.pdl_session.proofs.statement.assign_value.Goals as goal
 
 pub returns-clause-runs : goal.returns-clause-runs
 returns-clause-runs g c =
-    runs_assigned c.assign.result c.args.scope.now c.target.new.scope c.eval.new.scope c.assign.new.self (target c.args.to.now.name (map view_of c.args.to.now.views.items)) (tree_of c.args.value.now) c.args.sign c.in_ok-to.to c.in_ok-from.from
-    c.in_ok-to.ensures.value.0 c.in_ok-from.ensures.value.0 c.target.ensures.grown c.eval.ensures.grown c.assign.ensures.runs
+    runs_assigned c.assign.result c.args.scope.now c.assigned_to.new.scope c.eval.new.scope c.assign.new.self (target c.args.to.now.name (map view_of c.args.to.now.views.items)) (tree_of c.args.value.now) c.args.sign c.in_ok-to.to c.in_ok-from.from
+    c.in_ok-to.ensures.value.0 c.in_ok-from.ensures.value.0 c.assigned_to.ensures.grown c.eval.ensures.grown c.assign.ensures.runs
 
 pub returns-in_err-from-clause-runs : goal.returns-in_err-from-clause-runs
 returns-in_err-from-clause-runs g c =
@@ -21,60 +24,75 @@ returns-in_err-from-clause-runs g c =
     let to = target c.args.to.now.name (map view_of c.args.to.now.views.items) in
     let f = c.in_err-from.field-0.0 in
     ends_at _ _ _ _ f c.from_residual-in_err-from.result c.from_residual-in_err-from.ensures.1
-    (assigned_refused s c.target.new.scope to (tree_of c.args.value.now) c.args.sign c.in_ok-to.to f c.in_ok-to.ensures.value.0 c.in_err-from.ensures.value c.target.ensures.grown)
-    (grows_trans s c.target.new.scope c.eval.new.scope c.target.ensures.grown c.eval.ensures.grown)
+    (assigned_refused s c.assigned_to.new.scope to (tree_of c.args.value.now) c.args.sign c.in_ok-to.to f c.in_ok-to.ensures.value.0 c.in_err-from.ensures.value c.assigned_to.ensures.grown)
+    (grows_trans s c.assigned_to.new.scope c.eval.new.scope c.assigned_to.ensures.grown c.eval.ensures.grown)
 
 pub returns-clause-told : goal.returns-clause-told
 returns-clause-told g c =
     assigned_told c.assign.result c.args.number c.args.scope.now c.eval.new.scope c.assign.new.self (assigned c.args.sign c.eval.new.scope.arrays c.in_ok-to.to c.in_ok-from.from)
-    c.watching_laws.ensures.growing c.in_order.ensures.whole c.in_order-3.ensures.whole (grows_trans c.args.scope.now c.target.new.scope c.eval.new.scope c.target.ensures.grown c.eval.ensures.grown)
+    c.watching_laws.ensures.growing c.in_order.ensures.whole c.in_order-3.ensures.whole (grows_trans c.args.scope.now c.assigned_to.new.scope c.eval.new.scope c.assigned_to.ensures.grown c.eval.ensures.grown)
     c.assign.ensures.runs c.assign.ensures.told
 
 pub returns-in_err-to-clause-moves : goal.returns-in_err-to-clause-moves
 returns-in_err-to-clause-moves g c =
-    target_refused c.args.to.now.name (map view_of c.args.to.now.views.items) c.args.sign (tree_of c.args.value.now) c.args.scope.now c.target.new.scope c.args.steps.now c.target.new.steps c.target.result
-    (λ none. c.target.ensures.bare (no_views_of c.args.to.now.views.items none))
+    target_refused c.args.to.now.name (map view_of c.args.to.now.views.items) c.args.sign (tree_of c.args.value.now) c.args.scope.now c.assigned_to.new.scope c.args.steps.now c.assigned_to.new.steps c.assigned_to.result
+    (λ none. c.assigned_to.ensures.bare (no_views_of c.args.to.now.views.items none))
 
 pub returns-in_err-from-clause-moves : goal.returns-in_err-from-clause-moves
 returns-in_err-from-clause-moves g c =
-    value_refused c.args.to.now.name (map view_of c.args.to.now.views.items) c.args.sign (tree_of c.args.value.now) c.args.scope.now c.target.new.scope c.eval.new.scope c.args.steps.now c.target.new.steps c.eval.new.steps c.target.result c.eval.result
-    (λ none. c.target.ensures.bare (no_views_of c.args.to.now.views.items none)) c.eval.ensures.plain
+    value_refused c.args.to.now.name (map view_of c.args.to.now.views.items) c.args.sign (tree_of c.args.value.now) c.args.scope.now c.assigned_to.new.scope c.eval.new.scope c.args.steps.now c.assigned_to.new.steps c.eval.new.steps c.assigned_to.result c.eval.result
+    (λ none. c.assigned_to.ensures.bare (no_views_of c.args.to.now.views.items none)) c.eval.ensures.plain
 
 pub returns-clause-moves : goal.returns-clause-moves
 returns-clause-moves g c =
-    assigned_plainly c.growth_laws.ensures.older c.args.to.now.name (map view_of c.args.to.now.views.items) c.args.sign (tree_of c.args.value.now) c.args.scope.now c.target.new.scope c.eval.new.scope c.assign.new.self c.args.steps.now c.target.new.steps c.eval.new.steps c.assign.new.steps c.in_ok-to.to c.in_ok-from.from
-    (λ none. c.in_ok-to.ensures.bare (no_views_of c.args.to.now.views.items none)) c.in_ok-to.ensures.value.1 c.in_ok-from.ensures.plain c.eval.ensures.grown c.in_order-3.ensures.whole c.assign.ensures.at_once c.assign.ensures.views
+    assigned_plainly c.growth_laws.ensures.older c.args.to.now.name (map view_of c.args.to.now.views.items) c.args.sign (tree_of c.args.value.now) c.args.scope.now c.assigned_to.new.scope c.eval.new.scope c.assign.new.self c.args.steps.now c.assigned_to.new.steps c.eval.new.steps c.assign.new.steps c.in_ok-to.to c.in_ok-from.from
+    (λ none. c.in_ok-to.ensures.bare (no_views_of c.args.to.now.views.items none)) c.in_ok-to.ensures.value.1 c.in_ok-from.ensures.plain c.eval.ensures.grown c.in_order-2.ensures.whole c.in_order-3.ensures.whole c.assign.ensures.at_once c.assign.ensures.views
 
 pub returns-clause-readable : goal.returns-clause-readable
 returns-clause-readable g c =
-    assigned_readable c.assign.result c.args.to.now.name (map view_of c.args.to.now.views.items) c.args.sign (tree_of c.args.value.now) c.args.scope.now c.target.new.scope c.assign.new.self c.args.steps.now c.target.new.steps c.in_ok-to.to
+    assigned_readable c.assign.result c.args.to.now.name (map view_of c.args.to.now.views.items) c.args.sign (tree_of c.args.value.now) c.args.scope.now c.assigned_to.new.scope c.assign.new.self c.args.steps.now c.assigned_to.new.steps c.in_ok-to.to
     (λ none. c.in_ok-to.ensures.bare (no_views_of c.args.to.now.views.items none)) c.assign.ensures.warm
 
 pub returns-in_err-to-clause-within : goal.returns-in_err-to-clause-within
-returns-in_err-to-clause-within g c =
-    target_left c.from_residual.result c.in_err-to.field-0.0 c.args.scope.now c.target.new.scope (target c.args.to.now.name (map view_of c.args.to.now.views.items)) (tree_of c.args.value.now) c.args.steps.now c.target.new.steps
+returns-in_err-to-clause-within g c = λ none.
+    target_left c.from_residual.result c.in_err-to.field-0.0 c.args.scope.now c.assigned_to.new.scope (target c.args.to.now.name (map view_of c.args.to.now.views.items)) (tree_of c.args.value.now) c.args.steps.now c.assigned_to.new.steps
     c.from_residual.ensures.1 c.in_err-to.ensures.value c.in_err-to.ensures.within
 
 pub returns-in_err-from-clause-within : goal.returns-in_err-from-clause-within
-returns-in_err-from-clause-within g c =
+returns-in_err-from-clause-within g c = λ none.
     let s = c.args.scope.now in
-    let mid = c.target.new.scope in
+    let mid = c.assigned_to.new.scope in
     let tree = tree_of c.args.value.now in
-    let costs = c.cost_laws.ensures.older s mid c.in_order.ensures c.in_order-2.ensures c.target.ensures.grown in
-    value_left c.from_residual-in_err-from.result c.in_err-from.field-0.0 s mid c.eval.new.scope (target c.args.to.now.name (map view_of c.args.to.now.views.items)) tree c.args.steps.now c.target.new.steps c.eval.new.steps c.in_ok-to.to
-    c.from_residual-in_err-from.ensures.1 c.in_ok-to.ensures.value.0 c.target.ensures.grown.names c.in_err-from.ensures.value c.in_ok-to.ensures.within (names_less s mid c.target.ensures.grown.names (names_live s c.in_order.ensures.whole) costs tree)
+    let costs = c.cost_laws.ensures.older s mid c.in_order.ensures c.in_order-2.ensures c.assigned_to.ensures.grown in
+    value_left c.from_residual-in_err-from.result c.in_err-from.field-0.0 s mid c.eval.new.scope (target c.args.to.now.name (map view_of c.args.to.now.views.items)) tree c.args.steps.now c.assigned_to.new.steps c.eval.new.steps c.in_ok-to.to
+    c.from_residual-in_err-from.ensures.1 c.in_ok-to.ensures.value.0 c.assigned_to.ensures.grown.names c.in_err-from.ensures.value c.in_ok-to.ensures.within (names_less s mid c.assigned_to.ensures.grown.names (names_live s c.in_order.ensures.whole) costs tree)
     c.in_err-from.ensures.within
 
 pub returns-clause-within : goal.returns-clause-within
-returns-clause-within g c =
+returns-clause-within g c = λ none.
     let s = c.args.scope.now in
-    let mid = c.target.new.scope in
+    let to = target c.args.to.now.name (map view_of c.args.to.now.views.items) in
+    let mid = c.assigned_to.new.scope in
     let late = c.eval.new.scope in
     let tree = tree_of c.args.value.now in
-    let all = grows_trans s mid late c.target.ensures.grown c.eval.ensures.grown in
-    let first = c.cost_laws.ensures.older s mid c.in_order.ensures c.in_order-2.ensures c.target.ensures.grown in
+    let all = grows_trans s mid late c.assigned_to.ensures.grown c.eval.ensures.grown in
+    let first = c.cost_laws.ensures.older s mid c.in_order.ensures c.in_order-2.ensures c.assigned_to.ensures.grown in
     let next = c.cost_laws.ensures.older mid late c.in_order-2.ensures c.in_order-3.ensures c.eval.ensures.grown in
     let both = c.cost_laws.ensures.older s late c.in_order.ensures c.in_order-3.ensures all in
-    assigned_within c.assign.result c.growth_laws.ensures.older s mid late c.assign.new.self (target c.args.to.now.name (map view_of c.args.to.now.views.items)) tree c.args.steps.now c.target.new.steps c.eval.new.steps c.assign.new.steps c.in_ok-to.to c.in_ok-from.from
-    c.in_order.ensures.whole c.in_order-3.ensures.whole c.in_ok-to.ensures.value.0 c.in_ok-to.ensures.value.1 c.in_ok-from.ensures.value.0 c.target.ensures.grown c.eval.ensures.grown all next both
-    c.in_ok-to.ensures.within (names_less s mid c.target.ensures.grown.names (names_live s c.in_order.ensures.whole) first tree) c.in_ok-from.ensures.within c.assign.ensures.counted
+    assigned_within c.assign.result c.growth_laws.ensures.older s mid late c.assign.new.self (target c.args.to.now.name (map view_of c.args.to.now.views.items)) tree c.args.steps.now c.assigned_to.new.steps c.eval.new.steps c.assign.new.steps c.in_ok-to.to c.in_ok-from.from
+    c.in_order.ensures.whole c.in_order-3.ensures.whole c.in_ok-to.ensures.value.0 c.in_ok-to.ensures.value.1 c.in_ok-from.ensures.value.0 c.assigned_to.ensures.grown c.eval.ensures.grown all next both
+    c.in_ok-to.ensures.within (names_less s mid c.assigned_to.ensures.grown.names (names_live s c.in_order.ensures.whole) first tree) c.in_ok-from.ensures.within (c.assign.ensures.counted (assigned_affected c.growth_laws.ensures.older s mid late to c.in_ok-to.to c.in_ok-to.ensures.value.0 c.in_ok-to.ensures.value.1 c.assigned_to.ensures.grown c.eval.ensures.grown c.in_order-2.ensures.whole c.in_order-3.ensures.whole ∙ none))
+
+pub assign-requires-clause-unflowed : goal.assign-requires-clause-unflowed
+assign-requires-clause-unflowed g c =
+    late_unflowed c.growth_laws.ensures.older c.assigned_to.new.scope c.eval.new.scope c.in_ok-to.to c.eval.ensures.grown c.in_order-3.ensures.whole c.in_ok-to.ensures.value.1 c.in_ok-to.ensures.unflowed
+
+pub returns-clause-flowing : goal.returns-clause-flowing
+returns-clause-flowing g c =
+    let s = c.args.scope.now in
+    let mid = c.assigned_to.new.scope in
+    let late = c.eval.new.scope in
+    let to = target c.args.to.now.name (map view_of c.args.to.now.views.items) in
+    subst (λ (fs : Flows). c.assign.new.runs ≤ c.args.runs.now + length fs)
+    (assigned_affected c.growth_laws.ensures.older s mid late to c.in_ok-to.to c.in_ok-to.ensures.value.0 c.in_ok-to.ensures.value.1 c.assigned_to.ensures.grown c.eval.ensures.grown c.in_order-2.ensures.whole c.in_order-3.ensures.whole)
+    c.assign.ensures.affected

@@ -1,7 +1,7 @@
 use Rattle.std.proofs.Common.{ℕ, ◌∙◌, List, [], Vec, Global, Bool, true, false, Result, Ok, Err, map, sym, subst}
 use Rattle.pdl_syntax.specs.declared.tree.Statement.{Statement}
 use Rattle.pdl_syntax.specs.declared.tree.Arg.{Arg}
-use Rattle.pdl_syntax.specs.StatementTree.{assign, bind, bind_list, pp_def, reshape, sever, statement_of, undef, view_of, watch}
+use Rattle.pdl_syntax.specs.StatementTree.{assign, bind, bind_list, flow, pp_def, reshape, sever, statement_of, undef, view_of, watch}
 use Rattle.pdl_syntax.specs.Tree.{none}
 use Rattle.pdl_syntax.specs.TreeOf.{args_of, tree_of}
 use Rattle.pdl_watch.specs.declared.notice.Notice.{Notice}
@@ -65,6 +65,13 @@ returns-in-Sever-clause-performs g c =
     let P : Statement → Type 0 = λ t. Performs (effect (present_in (slots_by g.W.Watcher.seen c.args.watchers.now.items)) (machine s) (statement_of t)) s c.sever.new.scope out out c.sever.result in
     subst P (sym c.in-Sever.is) (silent c.sever.result (effect (present_in (slots_by g.W.Watcher.seen c.args.watchers.now.items)) (machine s) (sever c.in-Sever.name)) s c.sever.new.scope out c.sever.ensures.runs)
 
+pub returns-in-Flow-clause-performs : goal.returns-in-Flow-clause-performs
+returns-in-Flow-clause-performs g c =
+    let s = c.args.scope.now in
+    let out = c.args.out.now.items in
+    let P : Statement → Type 0 = λ t. Performs (effect (present_in (slots_by g.W.Watcher.seen c.args.watchers.now.items)) (machine s) (statement_of t)) s c.flow.new.scope out out c.flow.result in
+    subst P (sym c.in-Flow.is) (silent c.flow.result (effect (present_in (slots_by g.W.Watcher.seen c.args.watchers.now.items)) (machine s) (flow c.in-Flow.name (tree_of c.in-Flow.value))) s c.flow.new.scope out c.flow.ensures.runs)
+
 pub returns-in-Undef-clause-performs : goal.returns-in-Undef-clause-performs
 returns-in-Undef-clause-performs g c =
     let s = c.args.scope.now in
@@ -122,6 +129,10 @@ pub returns-in-Sever-clause-bounded : goal.returns-in-Sever-clause-bounded
 returns-in-Sever-clause-bounded g c =
     subst (λ (z : Statement). MovesByForm (statement_of z) c.args.scope.now c.sever.new.scope c.args.steps.now c.sever.new.steps c.sever.result) (sym c.in-Sever.is) c.sever.ensures.counted
 
+pub returns-in-Flow-clause-bounded : goal.returns-in-Flow-clause-bounded
+returns-in-Flow-clause-bounded g c =
+    subst (λ (z : Statement). MovesByForm (statement_of z) c.args.scope.now c.flow.new.scope c.args.steps.now c.flow.new.steps c.flow.result) (sym c.in-Flow.is) c.flow.ensures.within
+
 pub returns-in-Bind-default-default-true-clause-bounded : goal.returns-in-Bind-default-default-true-clause-bounded
 returns-in-Bind-default-default-true-clause-bounded g c =
     let s = c.args.scope.now in
@@ -156,4 +167,4 @@ returns-in_err-all-in-Assign-clause-bounded g c =
     let new = c.assign_value.new.scope in
     let f = c.in_err-all-in-Assign.field-0.0 in
     subst (λ (z : Statement). MovesByForm (statement_of z) s new c.args.steps.now c.assign_value.new.steps c.from_residual.result) (sym c.in-Assign.is)
-    (up_to_fault (Vec (Vec Notice Global) Global) c.from_residual.result f (assign_steps s place tree) s (came (value_after s place tree) new.arrays.world) c.args.steps.now c.assign_value.new.steps c.from_residual.ensures.1 c.in_err-all-in-Assign.ensures.within)
+    (λ none. up_to_fault (Vec (Vec Notice Global) Global) c.from_residual.result f (assign_steps s place tree) s (came (value_after s place tree) new.arrays.world) c.args.steps.now c.assign_value.new.steps c.from_residual.ensures.1 (c.in_err-all-in-Assign.ensures.within none))

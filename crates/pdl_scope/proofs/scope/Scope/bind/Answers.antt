@@ -11,14 +11,15 @@ use Rattle.pdl_scope.proofs.scope.Scope.bind.Goals as goal
 
 pub hold_for_name-requires-clause-room : goal.hold_for_name-requires-clause-room
 hold_for_name-requires-clause-room c =
-    let r = room_for c.self.inside.names.entries c.self.inside.kernels c.self.inside.watches.items c.self.inside.engine c.self.inside.leaving.items c.args.id c.self.invariant in
-    omega (arith, c.self.inside.leaving.ok)
+    let r = room_for c.self.inside.names.entries c.self.inside.kernels c.self.inside.watches.items c.self.inside.flows.items c.self.inside.engine c.self.inside.leaving.items c.args.id c.self.invariant in
+    omega (arith, c.self.inside.leaving.ok, c.self.invariant.reads)
 
 pub invariant_of-self-2 : goal.invariant_of-self-2
 invariant_of-self-2 c =
     let names = c.self.inside.names.entries in
     let ks = c.self.inside.kernels in
     let ws = c.self.inside.watches.items in
+    let fs = c.self.inside.flows.items in
     let x = c.args.name.now in
     let v = c.args.id in
     let e = c.self.inside.engine in
@@ -30,7 +31,7 @@ invariant_of-self-2 c =
     let F : Named ℕ → Type 0 = λ ns. length ns ≤ names_limit in
     let few = subst F is (few_bound names c.bind.new.self.entries x v after c.self.invariant.few) in
     let W : List ℕ → Type 0 = λ vs. IsHeldForName e vs v t left in
-    let N : Named ℕ → Type 0 = λ ns. IsHeld (state_in (names_in ns ks) ws t) t.holds (left ++ option_to_list (found names x)) in
-    let L : List ℕ → Type 0 = λ vs. IsHeld (state_in (names_in c.bind.new.self.entries ks) ws t) t.holds vs in
+    let N : Named ℕ → Type 0 = λ ns. IsHeld (state_in (names_in ns ks) ws fs t) t.holds (left ++ option_to_list (found names x)) in
+    let L : List ℕ → Type 0 = λ vs. IsHeld (state_in (names_in c.bind.new.self.entries ks) ws fs t) t.holds vs in
     subst L (sym (c.note_some.ensures.items ∙ ap (λ o. left ++ option_to_list o) c.in_ok-had.ensures.given_up))
-    (subst N (sym is) (held_bound c.hold_laws.ensures.more c.keeping_laws.ensures.more names ks ws e t x v c.self.inside.leaving.items left c.holds_law.ensures.each c.self.invariant live few (subst W c.in_ok-reserve.ensures.items c.hold_for_name.ensures.held)))
+    (subst N (sym is) (held_bound c.hold_laws.ensures.more c.keeping_laws.ensures.more names ks ws fs e t x v c.self.inside.leaving.items left c.holds_law.ensures.each c.self.invariant live few (subst W c.in_ok-reserve.ensures.items c.hold_for_name.ensures.held)))

@@ -62,7 +62,7 @@ loop-i-preserved g c =
     let now = named_too (machine s) more in
     let R : List (List ℕ) → Type 0 = λ ys. length now.names.arrays + new_among now.names.arrays ys ≤ names_limit in
     let room : R (x ∷ rest) = subst R (rest_is xs c.min-count.result i x (omega arith) (omega arith) c.index-bound-i.is) c.loop-i.invariant.room in
-    let next : IsNext now (named_too (machine mid) more) x m id = named_next (machine s) (machine mid) more x m id rest c.in_ok-id.ensures.value.0 c.make_like.ensures.grown.names c.make_like.ensures.grown.watches room in
+    let next : IsNext now (named_too (machine mid) more) x m id = named_next (machine s) (machine mid) more x m id rest c.in_ok-id.ensures.value.0 c.make_like.ensures.grown.names c.make_like.ensures.grown.watches c.make_like.ensures.grown.flows room in
     let is = named_is (machine mid) more x id in
     let M : Named ℕ → Type 0 = λ all. let names = with_names (names_of mid) all in length names + new_among names rest ≤ names_limit in
     let L : Named ℕ → Type 0 = λ all. AreLive mid.arrays.world (map (λ n. n.1) all) in
@@ -116,7 +116,7 @@ returns-clause-runs g c =
     let old = c.self-2.inside.names.entries in
     let P : Stepped → Type 0 = λ r. Prints r (named_too (machine c.loop-i.self) more) [] [] in
     let end : c.loop-i.i < length xs → length ms ≤ c.loop-i.i = λ within. omega (arith, c.min-count.ensures) in
-    let named : Named ℕ → Arrays → State = λ ns a. record { names = names_in ns c.self-2.inside.kernels; arrays = a; watches = c.self-2.inside.watches.items } in
+    let named : Named ℕ → Arrays → State = λ ns a. record { names = names_in ns c.self-2.inside.kernels; arrays = a; watches = c.self-2.inside.watches.items; flows = c.self-2.inside.flows.items } in
     let is : named c.bind_all.new.names.entries (arrays_of c.bind_all.new.engine) ≡ named_too (machine c.loop-i.self) more =
     ap (λ ns. named ns (arrays_of c.bind_all.new.engine)) (c.bind_all.ensures.names ∙ ap (λ ns. with_names ns more) c.reserve.ensures.names) ∙ ap (named (with_names old more)) (ap arrays_of c.bind_all.ensures.same)
     ∙ ap (λ (z : Seen). named_too (machine z) more) c.self-2.view_is in
@@ -127,11 +127,12 @@ pub invariant_of-self-2 : goal.invariant_of-self-2
 invariant_of-self-2 g c =
     let ks = c.self-2.inside.kernels in
     let ws = c.self-2.inside.watches.items in
+    let fs = c.self-2.inside.flows.items in
     let e = c.self-2.inside.engine in
     let names = c.reserve.new.self.entries in
     let leaving = c.reserve-2.new.self.items in
-    let held = held_same c.self-2.inside.names.entries names ks ws e c.self-2.inside.leaving.items leaving c.reserve.ensures.names c.reserve-2.ensures.items c.self-2.invariant in
-    held_defined c.bind_all.new.names.entries [] ks ws c.bind_all.new.engine c.bind_all.new.leaving.items (c.bind_all.ensures.held ws (held_defined names ks [] ws e leaving held))
+    let held = held_same c.self-2.inside.names.entries names ks ws fs e c.self-2.inside.leaving.items leaving c.reserve.ensures.names c.reserve-2.ensures.items c.self-2.invariant in
+    held_defined c.bind_all.new.names.entries [] ks ws fs c.bind_all.new.engine c.bind_all.new.leaving.items (c.bind_all.ensures.held ws fs (held_defined names ks [] ws fs e leaving held))
 
 pub returns-in_err-id-clause-counted : goal.returns-in_err-id-clause-counted
 returns-in_err-id-clause-counted g c =

@@ -1,51 +1,129 @@
-use Rattle.std.proofs.Common.{◌≡◌, ℕ, List, true, sym, ap, subst, ◌∙◌}
-use Rattle.pdl_machine.specs.State.{State, held, kept, with_world}
-use Rattle.pdl_machine.specs.Tidy.{tidy}
+use Rattle.std.proofs.Common.{◌≡◌, ℕ, ◌+◌, ◌≤◌, List, ◌++◌, length, true, sym, ap, subst, ◌∙◌, arith}
+use Rattle.pdl_machine.specs.Flows.{Flows, all_read, needs_of}
+use Rattle.pdl_machine.specs.Following.{AreFlows}
+use Rattle.pdl_machine.specs.State.{State, kept, with_world}
+use Rattle.pdl_machine.specs.Tidy.{settled, tidy}
 use Rattle.pdl_world.specs.Sound.{IsLive}
+use Rattle.pdl_world.specs.World.{World}
+use Rattle.pdl_engine.specs.Held.{written_back}
 use Rattle.pdl_engine.specs.Reading.{KeepsViews}
 use Rattle.pdl_engine.specs.State.{is_fresh}
-use Rattle.pdl_scope.specs.Scope.{engine_of, machine, names_in, state_in, IsHeld, Scope as Seen}
-use Rattle.pdl_scope.proofs.Held.{all_gone}
+use Rattle.pdl_scope.specs.Holding.{AreHeld}
+use Rattle.pdl_scope.specs.LetGo.{HasFlows}
+use Rattle.pdl_scope.specs.Scope.{arrays_of, engine_of, machine, names_in, reads_limit, state_in, IsHeld, Scope as Seen}
+use Rattle.pdl_scope.proofs.FlowsStay.{listed_front}
+use Rattle.pdl_scope.proofs.Held.{all_gone, held_beside, held_by, held_of}
+use Rattle.pdl_scope.proofs.Needed.{kept_flows, kept_reads, needed_world, settled_unseen, staying_live}
+use Rattle.pdl_scope.proofs.Released.{let_go_refl}
 use Rattle.pdl_scope.proofs.scope.Scope.let_go.Goals as goal
 
 abbrev swept : State → State
-swept s = with_world s (kept s)
+swept s = with_world (settled s) (kept s)
 
 pub release_all-requires : goal.release_all-requires
 release_all-requires g c =
     let names = names_in c.self.inside.names.entries c.self.inside.kernels in
     let ws = c.self.inside.watches.items in
-    let P : List ℕ → Type 0 = λ vs. IsHeld (state_in names ws c.self.inside.engine) c.self.inside.engine.holds vs in
-    record { names = names; watches = ws; held = subst P (sym c.deref.ensures.value) c.self.invariant }
+    let fs = c.self.inside.flows.items in
+    let e = c.self.inside.engine in
+    let P : List ℕ → Type 0 = λ vs. AreHeld e (held_by names ws fs) vs in
+    record { staying = held_by names ws fs; held = subst P (sym c.deref.ensures.value) (held_beside names ws fs e c.self.inside.leaving.items c.self.invariant) }
+
+pub let_flows_go-requires : goal.let_flows_go-requires
+let_flows_go-requires g c =
+    let names = names_in c.self.inside.names.entries c.self.inside.kernels in
+    let ws = c.self.inside.watches.items in
+    let fs = c.self.inside.flows.items in
+    let e = c.self.inside.engine in
+    let P : List ℕ → Type 0 = λ vs. AreHeld e (held_by names ws fs) vs in
+    let held = subst P (sym c.deref.ensures.value) (held_beside names ws fs e c.self.inside.leaving.items c.self.invariant) in
+    record {
+      staying = held_of names ws;
+      first = e;
+      had = record { sound = c.self.invariant.whole.sound; flows = c.self.invariant.whole.flows; lets_go = c.release_all.ensures.lets_go (held_by names ws fs) held };
+    }
 
 pub invariant_of-self : goal.invariant_of-self
 invariant_of-self g c =
     let names = names_in c.self.inside.names.entries c.self.inside.kernels in
     let ws = c.self.inside.watches.items in
-    let P : List ℕ → Type 0 = λ vs. IsHeld (state_in names ws c.self.inside.engine) c.self.inside.engine.holds vs in
-    let Q : List ℕ → Type 0 = λ vs. IsHeld (state_in names ws c.release_all.new.engine) c.release_all.new.engine.holds vs in
-    subst Q (sym c.clear.ensures.items) (c.release_all.ensures.lets_go names ws (subst P (sym c.deref.ensures.value) c.self.invariant)).is_held
+    let fs = c.self.inside.flows.items in
+    let e = c.self.inside.engine in
+    let t = c.let_flows_go.new.engine in
+    let vs = held_of names ws in
+    let P : List ℕ → Type 0 = λ us. AreHeld e (held_by names ws fs) us in
+    let held = subst P (sym c.deref.ensures.value) (held_beside names ws fs e c.self.inside.leaving.items c.self.invariant) in
+    let had : HasFlows c.release_all.new.engine fs vs e = record { sound = c.self.invariant.whole.sound; flows = c.self.invariant.whole.flows; lets_go = c.release_all.ensures.lets_go (held_by names ws fs) held } in
+    let needed = c.let_flows_go.ensures.needed vs e had in
+    let n = needs_of e.world fs vs in
+    let left = c.let_flows_go.new.flows.items in
+    let sound = c.self.invariant.whole.sound in
+    let world = needed_world c.numbering_laws.ensures.again c.keeping_laws.ensures.more vs e fs t left needed in
+    let many = vs ++ all_read left in
+    let gone = all_gone many e t needed.lets_go in
+    let L : List ℕ → Type 0 = λ us. IsHeld (state_in names ws left t) t.holds us in
+    subst L (sym c.clear.ensures.items) (record {
+      whole = record {
+        sound = needed.lets_go.is_held.sound;
+        below = needed.lets_go.is_held.below;
+        live = staying_live c.sweep_laws.ensures.seen e.world t.world many sound gone vs (λ v h. listed_front vs (all_read left) v h) c.self.invariant.whole.live;
+        flows = (subst (λ (hs : Flows). AreFlows (arrays_of t) hs) (sym needed.flows)
+            (kept_flows c.meaning_laws.ensures c.sweep_laws.ensures.seen (arrays_of e) (arrays_of t) n.arrays sound world fs vs c.self.invariant.whole.flows (λ v h. h)));
+      };
+      few = c.self.invariant.few;
+      slots = c.self.invariant.slots;
+      reads = (let fewer = kept_reads e.world fs vs in let most : length (all_read fs) ≤ reads_limit = c.self.invariant.reads in
+          let same : length (all_read left) ≡ length (all_read n.flows) = ap (λ (hs : Flows). length (all_read hs)) needed.flows in
+          omega (arith, fewer, most, same));
+      counts = needed.lets_go.is_held.counts;
+      reached = needed.lets_go.is_held.reached;
+    })
 
 pub returns-clause-gone : goal.returns-clause-gone
 returns-clause-gone g c =
     let names = names_in c.self.inside.names.entries c.self.inside.kernels in
     let ws = c.self.inside.watches.items in
-    let P : List ℕ → Type 0 = λ vs. IsHeld (state_in names ws c.self.inside.engine) c.self.inside.engine.holds vs in
-    all_gone names ws c.self.inside.engine c.release_all.new.engine (c.release_all.ensures.lets_go names ws (subst P (sym c.deref.ensures.value) c.self.invariant)) ∙ ap (λ (s : Seen). swept (machine s)) c.self.view_is
+    let fs = c.self.inside.flows.items in
+    let e = c.self.inside.engine in
+    let t = c.let_flows_go.new.engine in
+    let vs = held_of names ws in
+    let left = c.let_flows_go.new.flows.items in
+    let P : List ℕ → Type 0 = λ us. AreHeld e (held_by names ws fs) us in
+    let held = subst P (sym c.deref.ensures.value) (held_beside names ws fs e c.self.inside.leaving.items c.self.invariant) in
+    let had : HasFlows c.release_all.new.engine fs vs e = record { sound = c.self.invariant.whole.sound; flows = c.self.invariant.whole.flows; lets_go = c.release_all.ensures.lets_go (held_by names ws fs) held } in
+    let needed = c.let_flows_go.ensures.needed vs e had in
+    let n = needs_of e.world fs vs in
+    let world = needed_world c.numbering_laws.ensures.again c.keeping_laws.ensures.more vs e fs t left needed in
+    let state : Flows → World → ℕ → State = λ hs w next. record { names = names; arrays = record { world = w; next = next }; watches = ws; flows = hs } in
+    ap (λ hs. state hs t.world t.next) needed.flows ∙ ap (λ w. state n.flows w t.next) world ∙ ap (state n.flows (kept (state_in names ws fs e))) needed.lets_go.next
+    ∙ ap (λ (s : Seen). swept (machine s)) c.self.view_is
 
 pub returns-clause-unseen : goal.returns-clause-unseen
-returns-clause-unseen g c =
-    let s = machine c.args.self.now in
-    ap tidy (returns-clause-gone g c) ∙ c.numbering_laws.ensures.gone s (held s) (λ v is. is)
+returns-clause-unseen g c = ap tidy (returns-clause-gone g c) ∙ settled_unseen c.numbering_laws.ensures.gone (machine c.args.self.now)
 
 pub returns-clause-stay : goal.returns-clause-stay
 returns-clause-stay g c =
-    let e = c.release_all.new.engine in
-    let P : Seen → Type 0 = λ s. (v : ℕ) → IsLive e.world v → is_fresh (engine_of s) v ≡ true → is_fresh e v ≡ true in
-    subst P c.self.view_is c.release_all.ensures.stay
+    let e = c.self.inside.engine in
+    let t = c.let_flows_go.new.engine in
+    let sound = c.self.invariant.whole.sound in
+    let h = c.let_flows_go.ensures.goes_on e c.args.steps.now sound (c.release_all.ensures.goes_on e c.args.steps.now sound (let_go_refl e c.args.steps.now c.lazy_law.ensures)) in
+    let P : Seen → Type 0 = λ s. (v : ℕ) → IsLive t.world v → is_fresh (engine_of s) v ≡ true → is_fresh t v ≡ true in
+    subst P c.self.view_is h.left.stay
 
 pub returns-clause-counted : goal.returns-clause-counted
 returns-clause-counted g c =
-    let w = c.release_all.new.engine.world in
-    let P : Seen → Type 0 = λ s. KeepsViews s.arrays.world w → c.release_all.new.steps ≡ c.args.steps.now in
-    subst P c.self.view_is c.release_all.ensures.counted
+    let e = c.self.inside.engine in
+    let t = c.let_flows_go.new.engine in
+    let sound = c.self.invariant.whole.sound in
+    let h = c.let_flows_go.ensures.goes_on e c.args.steps.now sound (c.release_all.ensures.goes_on e c.args.steps.now sound (let_go_refl e c.args.steps.now c.lazy_law.ensures)) in
+    let P : Seen → Type 0 = λ s. KeepsViews s.arrays.world t.world → c.let_flows_go.new.steps ≡ c.args.steps.now in
+    subst P c.self.view_is h.counted
+
+pub returns-clause-written : goal.returns-clause-written
+returns-clause-written g c =
+    let e = c.self.inside.engine in
+    let t = c.let_flows_go.new.engine in
+    let sound = c.self.invariant.whole.sound in
+    let h = c.let_flows_go.ensures.goes_on e c.args.steps.now sound (c.release_all.ensures.goes_on e c.args.steps.now sound (let_go_refl e c.args.steps.now c.lazy_law.ensures)) in
+    let P : Seen → Type 0 = λ s. c.let_flows_go.new.steps ≤ c.args.steps.now + written_back (engine_of s) t.world (engine_of s).world in
+    subst P c.self.view_is h.written

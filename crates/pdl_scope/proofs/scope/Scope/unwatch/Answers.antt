@@ -10,12 +10,13 @@ pub invariant_of-self-2 : goal.invariant_of-self-2
 invariant_of-self-2 c =
     let names = names_in c.self.inside.names.entries c.self.inside.kernels in
     let ws = c.self.inside.watches.items in
+    let fs = c.self.inside.flows.items in
     let e = c.self.inside.engine in
     let k = c.args.slot in
     let leaving = c.self.inside.leaving.items in
     let P : Seen → Type 0 = λ s. IsSome (watch_of s.watches k) in
     let within : k < length ws = attached_within ws k (subst P (sym c.self.view_is) c.requires.attached) in
-    let W : Watches → Type 0 = λ us. IsHeld (state_in names us e) e.holds c.note_some.new.list.items in
-    let L : List ℕ → Type 0 = λ vs. IsHeld (state_in names (detach ws k) e) e.holds vs in
+    let W : Watches → Type 0 = λ us. IsHeld (state_in names us fs e) e.holds c.note_some.new.list.items in
+    let L : List ℕ → Type 0 = λ vs. IsHeld (state_in names (detach ws k) fs e) e.holds vs in
     let left = c.note_some.ensures.items ∙ ap (λ (vs : List ℕ). vs ++ option_to_list c.detach-had.result) c.in_ok-reserve.ensures.items ∙ ap (λ o. leaving ++ option_to_list o) c.detach-had.ensures.given_up in
-    subst W (sym c.detach-had.ensures.watches) (subst L (sym left) (held_detached c.watching_laws.ensures.trimmed c.keeping_laws.ensures.more names ws e k leaving c.self.invariant within))
+    subst W (sym c.detach-had.ensures.watches) (subst L (sym left) (held_detached c.watching_laws.ensures.trimmed c.keeping_laws.ensures.more names ws fs e k leaving c.self.invariant within))

@@ -6,7 +6,11 @@ use Rattle.pdl_machine.specs.Step.{effect}
 use Rattle.pdl_scope.specs.Scope.{machine}
 use Rattle.pdl_session.specs.Bounds.{LeavesReadable, RunsInPlace, warm_after}
 use Rattle.pdl_session.specs.Session.{AssignsAgain, IsAsBefore, PrintsAtMost, Session}
+use Rattle.pdl_session.specs.Evaluations.{RunsAtMost}
+use Rattle.pdl_session.specs.Faults.{ending}
+use Rattle.pdl_session.specs.Statements.{MovesAtMost}
 use Rattle.pdl_session.proofs.Advances.{advanced, advance_refused}
+use Rattle.pdl_session.proofs.Endings.{moves_at_most}
 use Rattle.pdl_session.proofs.Resting as resting
 use Rattle.pdl_session.proofs.Resting.{as_before, in_place, readable_then, warm_err, warm_ok}
 use Rattle.pdl_session.proofs.Spelled.{left_spelled}
@@ -31,8 +35,8 @@ returns-clause-kept g c =
 
 pub invariant_of-self : goal.invariant_of-self
 invariant_of-self g c =
-    resting.at_rest (record { goes = c.sweep_laws.ensures.new; older = c.growth_laws.ensures.older; bases = c.sweep_laws.ensures.bases; seen = c.sweep_laws.ensures.seen; assigned = c.sweep_laws.ensures.assigned }) (present_in (slots_by g.W.Watcher.seen c.args.watchers.now.items)) c.run-ran.result (statement_of c.args.statement.now) c.self.inside.warm c.bare_target-assigned.result c.warm_then-self-inside.result c.self.inside.scope c.run-ran.new.scope c.let_go.new.self c.args.out.now.items c.run-ran.new.out.items
-    (record { whole = c.whole.ensures; swept = c.self.invariant.swept; ran = c.whole-2.ensures; gone = c.let_go.ensures.gone; stay = c.let_go.ensures.stay }) (tidied_after (machine c.run-ran.new.scope) (machine c.let_go.new.self) c.numbering_laws.ensures.again c.let_go.ensures.gone)
+    resting.at_rest (record { goes = c.sweep_laws.ensures.new; older = c.growth_laws.ensures.older; paths = c.growth_laws.ensures.older_paths; assigned_paths = c.assignment_laws.ensures.paths; bases = c.sweep_laws.ensures.bases; seen = c.sweep_laws.ensures.seen; assigned = c.sweep_laws.ensures.assigned }) (present_in (slots_by g.W.Watcher.seen c.args.watchers.now.items)) c.run-ran.result (statement_of c.args.statement.now) c.self.inside.warm c.bare_target-assigned.result c.warm_then-self-inside.result c.self.inside.scope c.run-ran.new.scope c.let_go.new.self c.args.out.now.items c.run-ran.new.out.items
+    (record { whole = c.whole.ensures; swept = c.self.invariant.swept; ran = c.whole-2.ensures; gone = c.let_go.ensures.gone; stay = c.let_go.ensures.stay }) (tidied_after (machine c.run-ran.new.scope) (machine c.let_go.new.self) c.sweep_laws.ensures.seen c.numbering_laws.ensures.again c.whole-2.ensures c.let_go.ensures.gone)
     (left_spelled (record { unseen = c.numbering_laws.ensures.unseen; keeps = c.dumpable_laws.ensures.keeps; numbers = c.dumpable_laws.ensures.numbers }) (present_in (slots_by g.W.Watcher.seen c.args.watchers.now.items)) c.run-ran.result (statement_of c.args.statement.now) c.self.inside.scope c.run-ran.new.scope (machine c.let_go.new.self) c.args.out.now.items c.run-ran.new.out.items
     c.whole.ensures c.self.invariant.swept c.self.invariant.spelled c.requires.made c.whole-2.ensures c.let_go.ensures.unseen c.run-ran.ensures.runs)
     c.self.invariant.kept_warm
@@ -50,7 +54,7 @@ pub returns-clause-scope_kept : goal.returns-clause-scope_kept
 returns-clause-scope_kept g c =
     let P : Session → Type 0 = λ s. OnErr c.run-ran.result (IsAsBefore s.scope c.let_go.new.self) in
     subst P c.self.view_is
-    (as_before (record { goes = c.sweep_laws.ensures.new; older = c.growth_laws.ensures.older; bases = c.sweep_laws.ensures.bases; seen = c.sweep_laws.ensures.seen; assigned = c.sweep_laws.ensures.assigned })
+    (as_before (record { goes = c.sweep_laws.ensures.new; older = c.growth_laws.ensures.older; paths = c.growth_laws.ensures.older_paths; assigned_paths = c.assignment_laws.ensures.paths; bases = c.sweep_laws.ensures.bases; seen = c.sweep_laws.ensures.seen; assigned = c.sweep_laws.ensures.assigned })
     c.run-ran.result (effect (present_in (slots_by g.W.Watcher.seen c.args.watchers.now.items)) (machine c.self.inside.scope) (statement_of c.args.statement.now)) c.self.inside.scope c.run-ran.new.scope c.let_go.new.self c.args.out.now.items c.run-ran.new.out.items
     (record { whole = c.whole.ensures; swept = c.self.invariant.swept; ran = c.whole-2.ensures; gone = c.let_go.ensures.gone; stay = c.let_go.ensures.stay }) c.run-ran.ensures.runs)
 
@@ -59,7 +63,7 @@ returns-clause-again g c =
     let tree = statement_of c.args.statement.now in
     let P : Session → Type 0 = λ s. AssignsAgain s tree c.args.steps.now c.let_go.new.steps in
     subst P c.self.view_is
-    (resting.again (record { goes = c.sweep_laws.ensures.new; older = c.growth_laws.ensures.older; bases = c.sweep_laws.ensures.bases; seen = c.sweep_laws.ensures.seen; assigned = c.sweep_laws.ensures.assigned }) (present_in (slots_by g.W.Watcher.seen c.args.watchers.now.items)) c.run-ran.result tree c.self.inside.warm c.self.inside.scope c.run-ran.new.scope c.let_go.new.self c.args.steps.now c.run-ran.new.steps c.let_go.new.steps c.args.out.now.items c.run-ran.new.out.items
+    (resting.again (record { goes = c.sweep_laws.ensures.new; older = c.growth_laws.ensures.older; paths = c.growth_laws.ensures.older_paths; assigned_paths = c.assignment_laws.ensures.paths; bases = c.sweep_laws.ensures.bases; seen = c.sweep_laws.ensures.seen; assigned = c.sweep_laws.ensures.assigned }) (present_in (slots_by g.W.Watcher.seen c.args.watchers.now.items)) c.run-ran.result tree c.self.inside.warm c.self.inside.scope c.run-ran.new.scope c.let_go.new.self c.args.steps.now c.run-ran.new.steps c.let_go.new.steps c.args.out.now.items c.run-ran.new.out.items
     (record { whole = c.whole.ensures; swept = c.self.invariant.swept; ran = c.whole-2.ensures; gone = c.let_go.ensures.gone; stay = c.let_go.ensures.stay }) c.self.invariant.kept_warm c.run-ran.ensures.runs c.run-ran.ensures.moves c.let_go.ensures.counted)
 
 pub returns-clause-shown : goal.returns-clause-shown
@@ -67,14 +71,14 @@ returns-clause-shown g c =
     let tree = statement_of c.args.statement.now in
     let P : Session → Type 0 = λ s. PrintsAtMost s tree c.args.steps.now c.let_go.new.steps in
     subst P c.self.view_is
-    (resting.shown (record { goes = c.sweep_laws.ensures.new; older = c.growth_laws.ensures.older; bases = c.sweep_laws.ensures.bases; seen = c.sweep_laws.ensures.seen; assigned = c.sweep_laws.ensures.assigned }) tree c.self.inside.scope c.run-ran.new.scope c.let_go.new.self c.args.steps.now c.run-ran.new.steps c.let_go.new.steps (record { whole = c.whole.ensures; swept = c.self.invariant.swept; ran = c.whole-2.ensures; gone = c.let_go.ensures.gone; stay = c.let_go.ensures.stay }) c.run-ran.ensures.moves c.let_go.ensures.counted)
+    (resting.shown (record { goes = c.sweep_laws.ensures.new; older = c.growth_laws.ensures.older; paths = c.growth_laws.ensures.older_paths; assigned_paths = c.assignment_laws.ensures.paths; bases = c.sweep_laws.ensures.bases; seen = c.sweep_laws.ensures.seen; assigned = c.sweep_laws.ensures.assigned }) tree c.self.inside.scope c.run-ran.new.scope c.let_go.new.self c.args.steps.now c.run-ran.new.steps c.let_go.new.steps (record { whole = c.whole.ensures; swept = c.self.invariant.swept; ran = c.whole-2.ensures; gone = c.let_go.ensures.gone; stay = c.let_go.ensures.stay }) c.run-ran.ensures.moves c.let_go.ensures.counted)
 
 pub returns-clause-readable : goal.returns-clause-readable
 returns-clause-readable g c =
     let tree = statement_of c.args.statement.now in
     let P : Session → Type 0 = λ s. OnOk c.run-ran.result (LeavesReadable tree s.scope c.let_go.new.self) in
     subst P c.self.view_is
-    (readable_then (record { goes = c.sweep_laws.ensures.new; older = c.growth_laws.ensures.older; bases = c.sweep_laws.ensures.bases; seen = c.sweep_laws.ensures.seen; assigned = c.sweep_laws.ensures.assigned }) (present_in (slots_by g.W.Watcher.seen c.args.watchers.now.items)) c.run-ran.result tree c.self.inside.scope c.run-ran.new.scope c.let_go.new.self c.args.steps.now c.run-ran.new.steps c.args.out.now.items c.run-ran.new.out.items
+    (readable_then (record { goes = c.sweep_laws.ensures.new; older = c.growth_laws.ensures.older; paths = c.growth_laws.ensures.older_paths; assigned_paths = c.assignment_laws.ensures.paths; bases = c.sweep_laws.ensures.bases; seen = c.sweep_laws.ensures.seen; assigned = c.sweep_laws.ensures.assigned }) (present_in (slots_by g.W.Watcher.seen c.args.watchers.now.items)) c.run-ran.result tree c.self.inside.scope c.run-ran.new.scope c.let_go.new.self c.args.steps.now c.run-ran.new.steps c.args.out.now.items c.run-ran.new.out.items
     (record { whole = c.whole.ensures; swept = c.self.invariant.swept; ran = c.whole-2.ensures; gone = c.let_go.ensures.gone; stay = c.let_go.ensures.stay }) c.run-ran.ensures.runs c.run-ran.ensures.moves c.run-ran.ensures.readable)
 
 pub returns-clause-in_place : goal.returns-clause-in_place
@@ -83,3 +87,20 @@ returns-clause-in_place g c =
     let present = present_in (slots_by g.W.Watcher.seen c.args.watchers.now.items) in
     let P : Session → Type 0 = λ s. OnOk c.run-ran.result (RunsInPlace present s.scope tree c.let_go.new.self) in
     subst P c.self.view_is (in_place present c.run-ran.result tree c.self.inside.scope c.run-ran.new.scope c.let_go.new.self c.args.out.now.items c.run-ran.new.out.items c.let_go.ensures.gone c.run-ran.ensures.runs)
+
+pub returns-clause-flows : goal.returns-clause-flows
+returns-clause-flows g c = c.flow_laws.ensures.tidied (machine c.let_go.new.self) c.whole-3.ensures
+
+pub returns-clause-flowing : goal.returns-clause-flowing
+returns-clause-flowing g c =
+    let tree = statement_of c.args.statement.now in
+    subst (λ (s : Session). RunsAtMost s.scope tree c.args.runs.now c.run-ran.new.runs) c.self.view_is c.run-ran.ensures.flowing
+
+pub returns-clause-bounded : goal.returns-clause-bounded
+returns-clause-bounded g c =
+    let tree = statement_of c.args.statement.now in
+    let present = present_in (slots_by g.W.Watcher.seen c.args.watchers.now.items) in
+    let P : Session → Type 0 = λ s. MovesAtMost present tree s.scope c.let_go.new.self c.args.steps.now c.let_go.new.steps (ending c.run-ran.result) in
+    subst P c.self.view_is
+    (moves_at_most present c.run-ran.result tree c.self.inside.scope c.run-ran.new.scope c.let_go.new.self c.args.steps.now c.run-ran.new.steps c.let_go.new.steps c.args.out.now.items c.run-ran.new.out.items
+    (record { whole = c.whole-2.ensures; lazy = c.lazy_law.ensures }) c.run-ran.ensures.runs c.run-ran.ensures.bounded c.let_go.ensures.gone c.let_go.ensures.counted c.let_go.ensures.written)

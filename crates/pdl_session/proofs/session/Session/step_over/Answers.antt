@@ -1,6 +1,12 @@
 use Rattle.pdl_syntax.specs.StatementTree.{statement_of}
-use Rattle.pdl_watch.specs.Slots.{slots_by}
+use Rattle.pdl_watch.specs.Slots.{slots_by, present_in}
 use Rattle.pdl_scope.specs.Scope.{machine}
+use Rattle.std.proofs.Common.{Result, Err, sym, ap, subst, ◌∙◌}
+use Rattle.pdl_scope.specs.declared.fault.ScopeFault.{ScopeFault}
+use Rattle.pdl_session.specs.declared.fault.StepFault.{StepFault}
+use Rattle.pdl_session.specs.Faults.{step_ending}
+use Rattle.pdl_session.specs.Statements.{MovesAtMost}
+use Rattle.pdl_session.proofs.Endings.{step_ends_so}
 use Rattle.pdl_session.proofs.Dumped.{prints_dump}
 use Rattle.pdl_session.proofs.Heard.{has_done, has_run, stops_step, served_after}
 use Rattle.pdl_session.proofs.session.Session.step_over.Goals as goal
@@ -31,3 +37,9 @@ returns-in-Ok-clause-ran g c = has_run (slots_by g.W.Watcher.seen c.args.watcher
 pub returns-in-Ok-hear-clause-dumps : goal.returns-in-Ok-hear-clause-dumps
 returns-in-Ok-hear-clause-dumps g c =
     prints_dump c.dump_law.ensures (machine c.args.self.now.scope) c.args.self.now.state (statement_of c.args.statement.now) c.at_rest.ensures.state c.dumpable.ensures.again c.in-Ok.ensures.ok
+
+pub returns-clause-bounded : goal.returns-clause-bounded
+returns-clause-bounded g c =
+    let present = present_in (slots_by g.W.Watcher.seen c.args.watchers.now.items) in
+    let P : Result (Unit {0}) ScopeFault → Type 0 = λ r. MovesAtMost present (statement_of c.args.statement.now) c.args.self.now.scope c.advance.new.self.scope c.args.steps.now c.advance.new.steps r in
+    subst P (sym (ap (λ (e : StepFault). step_ending (Err e)) c.from.ensures ∙ step_ends_so c.in-Err.fault)) c.in-Err.ensures.bounded

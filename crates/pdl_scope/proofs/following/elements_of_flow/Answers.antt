@@ -1,0 +1,73 @@
+use Rattle.std.proofs.Common.{◌≡◌, ℕ, ℤ, List, map, Option, None, Result, Ok, refl, sym, ap, subst, ◌∙◌}
+use Rattle.std.specs.Prelude.{IfOk}
+use Rattle.std.proofs.lemmas.Result.{IfOk-weaker}
+use Rattle.pdl_buf.specs.Made.{IsMade}
+use Rattle.pdl_buf.specs.declared.made.Made.{Made}
+use Rattle.pdl_ops.specs.Answers.{refusal_named}
+use Rattle.pdl_flow.specs.Formula.{arrays_in, tree_of}
+use Rattle.pdl_flow.specs.Inputs.{AreInputs, value_in}
+use Rattle.pdl_flow.specs.Meaning.{meaning}
+use Rattle.pdl_flow.specs.declared.formula.Input.{Input}
+use Rattle.pdl_world.specs.Sound.{IsSound}
+use Rattle.pdl_world.specs.World.{World, assign, dims_in, ty_in}
+use Rattle.pdl_machine.specs.Arrays.{Arrays, array_in}
+use Rattle.pdl_machine.specs.Following.{follow}
+use Rattle.pdl_machine.specs.State.{AreLive}
+use Rattle.pdl_scope.specs.Plans.{all_assigned, input_at, planned}
+use Rattle.pdl_scope.specs.Scope.{arrays_of}
+use Rattle.pdl_scope.proofs.Followers.{IsFormed, are_inputs, follows_by, formed, made_at, of_inputs, older_live, unrefused}
+use Rattle.pdl_scope.proofs.Growing.{still_live}
+use Rattle.pdl_scope.proofs.Planned.{sound_after}
+use Rattle.pdl_scope.proofs.Plans.{live_after, looks_after}
+use Rattle.pdl_scope.proofs.following.elements_of_flow.Goals as goal
+
+pub inputs_planned-requires-clause-live : goal.inputs_planned-requires-clause-live
+inputs_planned-requires-clause-live g c =
+    let w = c.args.engine.now.world in
+    let f = c.args.flow.now in
+    subst (AreLive w) (sym c.reads.ensures) (older_live w f.root (arrays_in f.formula) c.requires.flow.older)
+
+pub evaluate-requires-clause-inputs : goal.evaluate-requires-clause-inputs
+evaluate-requires-clause-inputs g c =
+    let e = c.args.engine.now in
+    let plan = c.args.plan.now in
+    let f = c.args.flow.now in
+    let ks = arrays_in f.formula in
+    let b : Arrays = planned (arrays_of e) plan in
+    let looks = c.assignment_laws.ensures.looks in
+    let is : c.deref.result.now ≡ map (input_at b) ks = c.deref.ensures.value ∙ c.in_ok-inputs.ensures.inputs ∙ ap (map (input_at b)) c.reads.ensures in
+    let sound : IsSound b.world = sound_after c.assignment_laws.ensures.sound looks e.world e plan (λ v. refl) c.requires.plan.can c.resting_law.ensures.sound in
+    let live : AreLive b.world ks = still_live e.world b.world (λ v there. live_after looks e.world plan v there) ks (older_live e.world f.root ks c.requires.flow.older) in
+    subst (AreInputs c.deref.result.now) (sym c.formula.ensures) (are_inputs c.dumpable_laws.ensures.shown b f c.deref.result.now sound live is)
+
+pub returns-in-Ok-clause-follows : goal.returns-in-Ok-clause-follows
+returns-in-Ok-clause-follows g c =
+    let b : Arrays = planned (arrays_of c.args.engine.now) c.args.plan.now in
+    let f = c.args.flow.now in
+    let is : c.deref.result.now ≡ map (input_at b) (arrays_in f.formula) = c.deref.ensures.value ∙ c.in_ok-inputs.ensures.inputs ∙ ap (map (input_at b)) c.reads.ensures in
+    let value : meaning (array_in b) f.formula ≡ Ok c.in-Ok.made =
+    sym (of_inputs c.meaning_laws.ensures b f c.deref.result.now is) ∙ ap (meaning (value_in c.deref.result.now)) (sym c.formula.ensures) ∙ c.in-Ok.ensures.value in
+    IfOk-weaker c.to_vec.result (λ es. es.items ≡ c.in-Ok.made.elems) (λ es. follow b f ≡ record b { world = assign b.world f.root es.items })
+    (λ es same. follows_by b f c.in-Ok.made es.items value same) c.to_vec.ensures
+
+pub returns-in-Ok-clause-made : goal.returns-in-Ok-clause-made
+returns-in-Ok-clause-made g c =
+    let a : Arrays = arrays_of c.args.engine.now in
+    let b : Arrays = planned a c.args.plan.now in
+    let f = c.args.flow.now in
+    let is : c.deref.result.now ≡ map (input_at b) (arrays_in f.formula) = c.deref.ensures.value ∙ c.in_ok-inputs.ensures.inputs ∙ ap (map (input_at b)) c.reads.ensures in
+    let value : meaning (array_in b) f.formula ≡ Ok c.in-Ok.made =
+    sym (of_inputs c.meaning_laws.ensures b f c.deref.result.now is) ∙ ap (meaning (value_in c.deref.result.now)) (sym c.formula.ensures) ∙ c.in-Ok.ensures.value in
+    let form : IsFormed a b f (meaning (array_in b) f.formula) = formed c.meaning_laws.ensures a b f c.requires.flow (looks_after c.assignment_laws.ensures.looks a.world c.args.plan.now) in
+    IfOk-weaker c.to_vec.result (λ es. es.items ≡ c.in-Ok.made.elems) (λ es. IsMade (ty_in a.world f.root) (dims_in a.world f.root) es.items)
+    (λ es same. made_at a b f c.in-Ok.made es.items form value c.in-Ok.ensures.made same) c.to_vec.ensures
+
+pub out_of_memory-requires : goal.out_of_memory-requires
+out_of_memory-requires g c =
+    let a : Arrays = arrays_of c.args.engine.now in
+    let b : Arrays = planned a c.args.plan.now in
+    let f = c.args.flow.now in
+    let is : c.deref.result.now ≡ map (input_at b) (arrays_in f.formula) = c.deref.ensures.value ∙ c.in_ok-inputs.ensures.inputs ∙ ap (map (input_at b)) c.reads.ensures in
+    let form : IsFormed a b f (meaning (array_in b) f.formula) = formed c.meaning_laws.ensures a b f c.requires.flow (looks_after c.assignment_laws.ensures.looks a.world c.args.plan.now) in
+    unrefused (meaning (value_in c.deref.result.now) (tree_of c.formula.result.now)) form.made (refusal_named c.in-Err.fault)
+    (ap (meaning (value_in c.deref.result.now)) c.formula.ensures ∙ of_inputs c.meaning_laws.ensures b f c.deref.result.now is ∙ form.is) c.in-Err.ensures.value

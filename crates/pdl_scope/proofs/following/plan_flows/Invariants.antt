@@ -1,0 +1,12 @@
+use Rattle.std.proofs.Common.{◌≡◌, []}
+use Rattle.pdl_machine.specs.Flows.{affected}
+use Rattle.pdl_scope.specs.Plans.{roots_in}
+use Rattle.pdl_scope.proofs.PlannedFlows.{IsOn}
+use Rattle.pdl_scope.proofs.following.plan_flows.Given as goal
+
+-- the flows before this one follow the plan; where none is to, nothing is changed
+abbrev pub invariant-loop-flow : goal.invariant-loop-flow
+invariant-loop-flow g l = record {
+  on : IsOn l.fn.engine l.flows l.fn.plan.items l.fn.runs l.flow-index l.engine l.plan.items l.runs;
+  alone : affected l.fn.engine.world l.flows (roots_in l.fn.plan.items) ≡ [] → (l.plan ≡ l.fn.plan) × (l.engine ≡ l.fn.engine) × (l.steps ≡ l.fn.steps);
+}

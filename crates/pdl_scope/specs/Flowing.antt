@@ -1,0 +1,46 @@
+-- What flows keep: the dimensions of arrays, and what the formula of a root reads.
+use Rattle.std.specs.Prelude.{◌≡◌, ℕ, ◌==◌, ◌++◌, if◌then◌else◌, List, [], ◌∷◌, Option, Some, None}
+use Rattle.std.specs.List.{slice_get}
+use Rattle.pdl_flow.specs.Formula.{FormulaTree, arrays_in}
+use Rattle.pdl_world.specs.World.{World}
+use Rattle.pdl_machine.specs.Cuts.{is_read, is_watched}
+use Rattle.pdl_machine.specs.Flows.{Flow, Flows, is_flow}
+use Rattle.pdl_machine.specs.Following.{RootsAbove}
+use Rattle.pdl_machine.specs.State.{State}
+use Rattle.pdl_machine.specs.Watches.{Watches}
+use Rattle.pdl_machine.specs.declared.fault.Fault.{Fault}
+use Rattle.pdl_machine.specs.declared.fault.Fault.TheVariants.{FlowReads, FlowTarget, StillWatched}
+
+-- the arrays that the formula of a root reads; none where the root is no flow's
+abbrev pub read_by : Flows → (root : ℕ) → List ℕ
+read_by [] r = []
+read_by (f ∷ flows) r =
+    if f.root == r then arrays_in f.formula ++ read_by flows r else read_by flows r
+
+-- each root is newer than those of the flows before it
+abbrev pub RootsRise : Flows → Type 0
+RootsRise [] = Unit {0}
+RootsRise (f ∷ flows) = RootsAbove f.root flows × RootsRise flows
+
+-- the flow of a root stands at a place
+pub record HasRootAt (flows : Flows) (r at : ℕ) : Type 0 where
+  pub flow : Flow
+  pub is : slice_get flows at ≡ Some flow
+  pub root : flow.root ≡ r
+
+-- why an array keeps its dimensions, whatever others it is to get: it is watched, or a flow's root,
+-- or a flow reads it
+abbrev pub kept_shape : Watches → Flows → World → ℕ → Option Fault
+kept_shape watches flows w v =
+    if is_watched watches w v then Some StillWatched
+    else if is_flow flows v then Some FlowTarget
+    else if is_read flows w v then Some FlowReads
+    else None
+
+-- flows with one more
+abbrev pub flows_with : Flows → (root : ℕ) → FormulaTree → Flows
+flows_with flows r f = flows ++ record { root = r; formula = f } ∷ []
+
+-- the state with one flow more
+abbrev pub with_flow : State → (root : ℕ) → FormulaTree → State
+with_flow s r f = record s { flows = flows_with s.flows r f }

@@ -1,0 +1,89 @@
+-- Assignments that will be made one after another, each to another root: that of a statement, and
+-- those by which flows follow it.
+use Rattle.std.specs.Prelude.{◌≡◌, ℕ, ℤ, ◌==◌, if◌then◌else◌, Bool, true, false, List, [], ◌∷◌, map, Option, Some, None}
+use Rattle.pdl_flow.specs.declared.formula.Input.{Input}
+use Rattle.pdl_world.specs.Paths.{root_of}
+use Rattle.pdl_world.specs.Sound.{IsLive}
+use Rattle.pdl_world.specs.Swept.{is_listed}
+use Rattle.pdl_world.specs.World.{World, assign}
+use Rattle.pdl_engine.specs.Foresights.{Foretells}
+use Rattle.pdl_engine.specs.State.{State as Engine}
+use Rattle.pdl_machine.specs.Arrays.{Arrays, array_in}
+use Rattle.pdl_machine.specs.Flows.{Flows, affected, is_flow}
+use Rattle.pdl_machine.specs.Following.{followed}
+use Rattle.pdl_scope.specs.Assigning.{CanAssign}
+use Rattle.pdl_scope.specs.Scope.{arrays_of}
+use Rattle.pdl_scope.specs.declared.following.Change.{Change}
+
+-- the world after these assignments
+abbrev pub all_assigned : World → List Change → World
+all_assigned w [] = w
+all_assigned w (c ∷ cs) = all_assigned (assign w c.target c.values.items) cs
+
+-- the arrays after them
+abbrev pub planned : Arrays → List Change → Arrays
+planned a cs = record a { world = all_assigned a.world cs }
+
+-- the roots whose elements they alter
+abbrev pub roots_in : List Change → List ℕ
+roots_in cs = map (λ c. c.root) cs
+
+-- the one that alters a root, if there is one
+abbrev pub change_to : List Change → (root : ℕ) → Option Change
+change_to [] r = None
+change_to (c ∷ cs) r = if c.root == r then Some c else change_to cs r
+
+-- each has the root of its target, and no other one of them has it
+abbrev pub AreApart : World → List Change → Type 0
+AreApart w [] = Unit {0}
+AreApart w (c ∷ cs) =
+    (c.root ≡ root_of w c.target) × (is_listed (roots_in cs) c.root ≡ false) × AreApart w cs
+
+-- each tells what it will write
+abbrev pub AllForetell : World → List Change → Type 0
+AllForetell w [] = Unit {0}
+AllForetell w (c ∷ cs) = Foretells w c.target c.values.items c.foresight × AllForetell w cs
+
+-- The assignments are to different roots, and tell what they will write.
+pub record AreForetold (w : World) (cs : List Change) : Type 0 where
+  pub apart : AreApart w cs
+  pub each : AllForetell w cs
+
+-- each can be made
+abbrev pub AllCanAssign : Engine → List Change → Type 0
+AllCanAssign e [] = Unit {0}
+AllCanAssign e (c ∷ cs) = CanAssign e c.target c.values.items × AllCanAssign e cs
+
+-- The assignments can be made one after another, and what arrays show after them can be foreseen.
+pub record ArePlanned (e : Engine) (cs : List Change) : Type 0 where
+  pub foretold : AreForetold e.world cs
+  pub can : AllCanAssign e cs
+
+-- The assignment of these values to an array, which can be made, with what it will write.
+pub record IsChange (e : Engine) (c : Change) : Type 0 where
+  pub root : c.root ≡ root_of e.world c.target
+  pub foretells : Foretells e.world c.target c.values.items c.foresight
+  pub can : CanAssign e c.target c.values.items
+
+-- The plan of an assignment of these values to v: itself first, and then those by which flows follow
+-- it, none where none does.
+pub record IsPlan (old : Engine) (flows : Flows) (v : ℕ) (vs : List ℤ) (new : Engine) (cs : List Change)
+    : Type 0 where
+  pub own : Change
+  pub rest : List Change
+  pub starts : cs ≡ own ∷ rest
+  pub target_is : own.target ≡ v
+  pub values_are : own.values.items ≡ vs
+  pub made : ArePlanned new cs
+  pub follows : planned (arrays_of old) cs
+      ≡ followed (record (arrays_of old) { world = assign old.world v vs })
+      (affected old.world flows (root_of old.world v ∷ []))
+  pub alone : affected old.world flows (root_of old.world v ∷ []) ≡ [] → rest ≡ []
+
+-- no flow's root is altered
+abbrev pub NoFlowIn : List Change → Flows → Type 0
+NoFlowIn cs flows = (r : ℕ) → is_flow flows r ≡ true → is_listed (roots_in cs) r ≡ false
+
+-- an array with what it shows, as a formula's input
+abbrev pub input_at : Arrays → ℕ → Input
+input_at a k = record { array = k; value = array_in a k }

@@ -1,0 +1,366 @@
+//! What flows make of an assignment: a plan of assignments to different roots, each found before
+//! one of them is made (PDL::Dataflow).
+ghost use Rattle.std.specs.Prelude.{◌≡◌, ◌≢◌, None, ◌+◌, ◌≤◌, ◌∷◌, ◌++◌, [], true, false, List, IfOk, OnOk, length, map, option_map, sum_by};
+ghost use Rattle.std.specs.List.{list_any};
+ghost use Rattle.pdl_buf.specs.Made.{IsMade};
+ghost use Rattle.pdl_ops.specs.Answers.{refusal_named};
+ghost use Rattle.pdl_flow.specs.Formula.{arrays_in};
+ghost use Rattle.pdl_world.specs.Paths.{root_of};
+ghost use Rattle.pdl_world.specs.Sound.{IsLive, IsSound};
+ghost use Rattle.pdl_world.specs.Swept.{is_listed};
+ghost use Rattle.pdl_world.specs.World.{assign, dims_in, elements, ty_in};
+ghost use Rattle.pdl_engine.specs.Foresights.{Foretells};
+ghost use Rattle.pdl_engine.specs.Reading.{IsWarm};
+ghost use Rattle.pdl_engine.specs.State.{SameArrays, StayFresh, is_fresh};
+ghost use Rattle.pdl_machine.specs.Flows.{affected, reads_from};
+ghost use Rattle.pdl_machine.specs.Following.{AreFlows, IsFlow, follow, followed};
+ghost use Rattle.pdl_machine.specs.State.{AreLive};
+ghost use Rattle.pdl_watch.specs.Slots.{StartsWith};
+ghost use Rattle.pdl_scope.specs.Assigning.{CanAssign};
+ghost use Rattle.pdl_scope.specs.Plans.{AllCanAssign, AreApart, AreForetold, ArePlanned, IsChange, NoFlowIn, all_assigned, change_to, input_at, planned, roots_in};
+ghost use Rattle.pdl_scope.specs.Scope.{arrays_of};
+ghost use Rattle.pdl_scope.specs.declared.following.Change.{Change};
+
+use crate::flows::KeptFlow;
+use crate::reading::ready;
+use pdl_buf::{Elements, Made, Steps};
+use pdl_engine::{ArrayId, Engine, Foresight, all_shown};
+use pdl_flow::{Input, evaluate, meaning_laws};
+use pdl_machine::dumpable_laws;
+use pdl_ops::OpFault;
+use pdl_shape::{copy_dims, elements_of};
+use pdl_world::{assignment_laws, part_laws};
+use std::alloc::{AllocError, Global};
+use std::sync::ledger::Ledger;
+
+/// An assignment that will be made.
+#[derive(Drop)]
+pub(crate) struct Change {
+    /// The root of the array that is assigned to, whose elements it alters.
+    root: ArrayId,
+    target: ArrayId,
+    /// A value for each position of the target.
+    values: Vec<i64>,
+    /// What it will write.
+    foresight: Foresight,
+}
+
+impl Change {
+    /// The assignment of these values to an array, where so many elements are to be foreseen by it
+    /// at little cost.
+    pub(crate) fn new(
+        engine: &Engine,
+        target: ArrayId,
+        values: Vec<i64>,
+        lookups: u64,
+    ) -> Result<Change, AllocError>
+        requires { CanAssign engine.now target values.items }
+        ensures made { IfOk result (IsChange engine.now) }
+        ensures target { IfOk result (λ c. c.target ≡ target) }
+        ensures values { IfOk result (λ c. c.values.items ≡ values.items) }
+    {
+        let foresight = engine.foretell(target, &values, lookups)?;
+        Ok(Change {
+            root: engine.root(target),
+            target,
+            values,
+            foresight,
+        })
+    }
+
+    /// What it will write.
+    pub(crate) fn foresight(&self) -> &Foresight
+        ensures { result.now ≡ self.now.foresight }
+    {
+        &self.foresight
+    }
+}
+
+/// The assignment of a plan to an array of this root.
+pub(crate) fn find_change(plan: &[Change], root: ArrayId) -> Option<&Change>
+    ensures { option_map (λ c. c.now) result ≡ change_to plan.now root }
+{
+    for change in plan {
+        if change.root == root {
+            return Some(change);
+        }
+    }
+    None
+}
+
+/// Whether a flow's formula reads an array of a root.
+fn reads_root(engine: &Engine, flow: &KeptFlow, root: ArrayId) -> bool
+    requires { AreLive engine.now.world (arrays_in flow.now.formula) }
+    ensures { result ≡ reads_from engine.now.world flow.now (root ∷ []) }
+{
+    for read in flow.reads() {
+        if engine.root(*read) == root {
+            return true;
+        }
+    }
+    false
+}
+
+/// Whether a flow's formula reads an array that assignments of a plan alter.
+fn reads_changed(engine: &Engine, flow: &KeptFlow, plan: &[Change]) -> bool
+    requires { AreLive engine.now.world (arrays_in flow.now.formula) }
+    ensures { result ≡ reads_from engine.now.world flow.now (roots_in plan.now) }
+{
+    for change in plan {
+        if reads_root(engine, flow, change.root) {
+            return true;
+        }
+    }
+    false
+}
+
+/// Whether an assignment to an array of a root has flows follow it.
+pub(crate) fn is_followed(engine: &Engine, flows: &[KeptFlow], root: ArrayId) -> bool
+    requires { AreFlows (arrays_of engine.now) flows.now }
+    ensures followed { result ≡ true → affected engine.now.world flows.now (root ∷ []) ≢ [] }
+    ensures alone { result ≡ false → affected engine.now.world flows.now (root ∷ []) ≡ [] }
+{
+    for flow in flows {
+        if reads_root(engine, flow, root) {
+            return true;
+        }
+    }
+    false
+}
+
+/// The elements that an array has.
+fn elements_now<L: Ledger>(
+    alloc: Global,
+    engine: &mut Engine,
+    id: ArrayId,
+    steps: &mut Steps<L>,
+) -> Result<Vec<i64>, AllocError>
+    requires { IsLive engine.old.world id }
+    ensures items { IfOk result (λ es. es.items ≡ elements engine.old.world id) }
+    ensures same { SameArrays engine.old engine.new }
+    ensures stay { StayFresh engine.old engine.new }
+{
+    ready(engine, id, steps)?;
+    all_shown(alloc, &engine.lend(id))
+}
+
+/// The elements that an array has after an assignment.
+fn elements_after<L: Ledger>(
+    alloc: Global,
+    engine: &mut Engine,
+    change: &Change,
+    id: ArrayId,
+    steps: &mut Steps<L>,
+) -> Result<Vec<i64>, AllocError>
+    requires { IsLive engine.old.world id }
+    ensures items { let w = engine.old.world in let vs = change.now.values.items in
+        Foretells w change.now.target vs change.now.foresight
+        → IfOk result (λ es. es.items ≡ elements (assign w change.now.target vs) id) }
+    ensures same { SameArrays engine.old engine.new }
+    ensures stay { StayFresh engine.old engine.new }
+{
+    match engine.foresee(&change.foresight, id, steps)? {
+        Some(foreseen) => Ok(foreseen.after),
+        None => elements_now(alloc, engine, id, steps),
+    }
+}
+
+/// The elements that an array has after the assignments of a plan.
+fn elements_planned<L: Ledger>(
+    alloc: Global,
+    engine: &mut Engine,
+    plan: &[Change],
+    id: ArrayId,
+    steps: &mut Steps<L>,
+) -> Result<Vec<i64>, AllocError>
+    requires live { IsLive engine.old.world id }
+    requires plan { AreForetold engine.old.world plan.now }
+    ensures items { let after = all_assigned engine.old.world plan.now in
+        IfOk result (λ es. es.items ≡ elements after id) }
+    ensures same { SameArrays engine.old engine.new }
+    ensures stay { StayFresh engine.old engine.new }
+{
+    assignment_laws();
+    part_laws();
+    match find_change(plan, engine.root(id)) {
+        Some(change) => elements_after(alloc, engine, change, id, steps),
+        None => elements_now(alloc, engine, id, steps),
+    }
+}
+
+/// What an array shows after the assignments of a plan, as a formula's input.
+fn input_planned<L: Ledger>(
+    alloc: Global,
+    engine: &mut Engine,
+    plan: &[Change],
+    id: ArrayId,
+    steps: &mut Steps<L>,
+) -> Result<Input, AllocError>
+    requires live { IsLive engine.old.world id }
+    requires plan { AreForetold engine.old.world plan.now }
+    ensures input { let after = planned (arrays_of engine.old) plan.now in
+        IfOk result (λ i. i ≡ input_at after id) }
+    ensures same { SameArrays engine.old engine.new }
+    ensures stay { StayFresh engine.old engine.new }
+{
+    assignment_laws();
+    let items = elements_planned(alloc, engine, plan, id, steps)?;
+    Ok(Input {
+        array: id,
+        value: Made {
+            ty: engine.ty(id),
+            dims: copy_dims(engine.dims(id)),
+            elems: Elements::new(items),
+        },
+    })
+}
+
+/// What these arrays show after the assignments of a plan, as inputs of a formula.
+fn inputs_planned<L: Ledger>(
+    alloc: Global,
+    engine: &mut Engine,
+    plan: &[Change],
+    reads: &[ArrayId],
+    steps: &mut Steps<L>,
+) -> Result<Vec<Input>, AllocError>
+    requires live { AreLive engine.old.world reads.now }
+    requires plan { AreForetold engine.old.world plan.now }
+    ensures inputs { let after = planned (arrays_of engine.old) plan.now in
+        IfOk result (λ is. is.items ≡ map (input_at after) reads.now) }
+    ensures same { SameArrays engine.old engine.new }
+    ensures stay { StayFresh engine.old engine.new }
+{
+    let mut inputs = Vec::with_capacity(alloc, reads.len())?;
+    for read in reads {
+        let input = input_planned(alloc, engine, plan, *read, steps)?;
+        inputs.push(input)?;
+    }
+    Ok(inputs)
+}
+
+/// The elements that a flow's root gets when it follows the assignments of a plan. They are found
+/// in one step of `runs`. Out of memory is the only refusal, since the arrays that its formula
+/// reads have the types and dimensions that they had.
+fn elements_of_flow<L: Ledger, M: Ledger>(
+    alloc: Global,
+    engine: &mut Engine,
+    flow: &KeptFlow,
+    plan: &[Change],
+    steps: &mut Steps<L>,
+    runs: &mut Steps<M>,
+) -> Result<Vec<i64>, AllocError>
+    requires flow { IsFlow (arrays_of engine.old) flow.now }
+    requires plan { ArePlanned engine.old plan.now }
+    ensures follows { let before = planned (arrays_of engine.old) plan.now in
+        IfOk result (λ es. follow before flow.now
+        ≡ record before { world = assign before.world flow.now.root es.items }) }
+    ensures made { let w = engine.old.world in let r = flow.now.root in
+        IfOk result (λ es. IsMade (ty_in w r) (dims_in w r) es.items) }
+    ensures same { SameArrays engine.old engine.new }
+    ensures stay { StayFresh engine.old engine.new }
+    ensures before { runs.old ≤ runs.new }
+    ensures run { runs.new ≤ runs.old + 1 }
+{
+    assignment_laws();
+    dumpable_laws();
+    meaning_laws();
+    engine.resting_law();
+    let inputs = inputs_planned(alloc, engine, plan, flow.reads(), steps)?;
+    match evaluate(alloc, flow.formula(), &inputs, steps, runs) {
+        Ok(made) => made.elems.to_vec(alloc),
+        Err(fault) => Err(out_of_memory(fault)),
+    }
+}
+
+/// A fault that names no refusal.
+fn out_of_memory(fault: OpFault) -> AllocError
+    requires { refusal_named fault ≡ None }
+{
+    let _fault = fault;
+    AllocError
+}
+
+/// Adds to a plan the assignment by which a flow follows it.
+fn plan_flow<L: Ledger, M: Ledger>(
+    alloc: Global,
+    engine: &mut Engine,
+    flow: &KeptFlow,
+    plan: &mut Vec<Change>,
+    steps: &mut Steps<L>,
+    runs: &mut Steps<M>,
+) -> Result<(), AllocError>
+    requires flow { IsFlow (arrays_of engine.old) flow.now }
+    requires plan { ArePlanned engine.old plan.old.items }
+    requires apart { is_listed (roots_in plan.old.items) flow.now.root ≡ false }
+    ensures planned { OnOk result (ArePlanned engine.new plan.new.items) }
+    ensures follows { let a = arrays_of engine.old in
+        OnOk result (planned a plan.new.items ≡ follow (planned a plan.old.items) flow.now) }
+    ensures roots { OnOk result
+        (roots_in plan.new.items ≡ roots_in plan.old.items ++ flow.now.root ∷ []) }
+    ensures behind { OnOk result (StartsWith plan.new.items plan.old.items) }
+    ensures same { SameArrays engine.old engine.new }
+    ensures stay { StayFresh engine.old engine.new }
+    ensures before { runs.old ≤ runs.new }
+    ensures run { runs.new ≤ runs.old + 1 }
+{
+    let root = flow.root();
+    let values = elements_of_flow(alloc, engine, flow, plan, steps, runs)?;
+    ready(engine, root, steps)?;
+    let lookups = u64::from(elements_of(engine.dims(root)));
+    let change = Change::new(engine, root, values, lookups)?;
+    plan.push(change)?;
+    Ok(())
+}
+
+/// Adds to a plan the assignments by which flows follow it, in the order of the flows: one for each
+/// flow that reads, directly or through flows, what the plan alters. Each of these takes one step
+/// of `runs`; where there is none nothing is looked at but roots.
+pub(crate) fn plan_flows<L: Ledger, M: Ledger>(
+    alloc: Global,
+    engine: &mut Engine,
+    flows: &[KeptFlow],
+    plan: &mut Vec<Change>,
+    steps: &mut Steps<L>,
+    runs: &mut Steps<M>,
+) -> Result<(), AllocError>
+    requires flows { AreFlows (arrays_of engine.old) flows.now }
+    requires plan { ArePlanned engine.old plan.old.items }
+    requires apart { NoFlowIn plan.old.items flows.now }
+    ensures planned { OnOk result (ArePlanned engine.new plan.new.items) }
+    ensures follow { let a = arrays_of engine.old in
+        let flows = affected a.world flows.now (roots_in plan.old.items) in
+        OnOk result (planned a plan.new.items ≡ followed (planned a plan.old.items) flows) }
+    ensures behind { OnOk result (StartsWith plan.new.items plan.old.items) }
+    ensures same { SameArrays engine.old engine.new }
+    ensures stay { StayFresh engine.old engine.new }
+    ensures runs { let roots = roots_in plan.old.items in
+        runs.new ≤ runs.old + length (affected engine.old.world flows.now roots) }
+    ensures alone { affected engine.old.world flows.now (roots_in plan.old.items) ≡ []
+        → (plan.new ≡ plan.old) × (engine.new ≡ engine.old) × (steps.new ≡ steps.old) }
+{
+    for flow in flows {
+        if reads_changed(engine, flow, plan) {
+            plan_flow(alloc, engine, flow, plan, steps, runs)?;
+        }
+    }
+    Ok(())
+}
+
+/// Makes the assignments of a plan, which takes no memory, and a step for each value.
+pub(crate) fn assign_all<L: Ledger>(engine: &mut Engine, plan: &[Change], steps: &mut Steps<L>)
+    requires can { AllCanAssign engine.old plan.now }
+    requires apart { AreApart engine.old.world plan.now }
+    ensures world { engine.new.world ≡ all_assigned engine.old.world plan.now }
+    ensures holds { engine.new.holds ≡ engine.old.holds }
+    ensures next { engine.new.next ≡ engine.old.next }
+    ensures sound { IsSound engine.new.world }
+    ensures warm { (c : Change) → (cs : List Change) → plan.now ≡ c ∷ cs
+        → IsWarm engine.new c.target }
+    ensures counted { steps.new ≡ steps.old + sum_by (λ c. length c.values.items) plan.now }
+{
+    assignment_laws();
+    for change in plan {
+        engine.assign(change.target, &change.values, steps);
+    }
+    engine.resting_law();
+}

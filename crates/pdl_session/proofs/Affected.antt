@@ -1,0 +1,119 @@
+-- Which flows an assignment affects, whatever new arrays came before it.
+use Rattle.std.proofs.Common.{◌≡◌, ℕ, List, [], ◌∷◌, ◌++◌, Bool, true, false, Ok, refl, sym, ap, subst, ◌∙◌, eq-eqb, eqb-true}
+use Rattle.std.specs.List.{list_any}
+use Rattle.std.specs.Option.{option_map_or}
+use Rattle.std.specs.Prelude.{◌==◌, ◌||◌, if◌then◌else◌}
+use Rattle.pdl_lemmas.specs.Tests.{by_test}
+use Rattle.pdl_flow.specs.Formula.{arrays_in}
+use Rattle.pdl_world.specs.Laws.{OlderStay}
+use Rattle.pdl_world.specs.Paths.{root_of}
+use Rattle.pdl_world.specs.Sound.{IsLive, IsSound}
+use Rattle.pdl_world.specs.Swept.{is_listed}
+use Rattle.pdl_world.specs.World.{World, Look}
+use Rattle.pdl_machine.specs.Arrays.{Arrays}
+use Rattle.pdl_machine.specs.Flows.{Flow, Flows, affected, all_read, is_flow, reads_from}
+use Rattle.pdl_machine.specs.Laws.{AreGrown}
+use Rattle.pdl_machine.specs.State.{AreLive, IsWhole}
+use Rattle.pdl_machine.specs.Step.{target_in}
+use Rattle.pdl_syntax.specs.Tree.{Tree}
+use Rattle.pdl_scope.specs.Scope.{Scope, machine, Grows}
+use Rattle.pdl_session.specs.Bounds.{is_read_from}
+use Rattle.pdl_session.specs.Evaluations.{affected_by, affected_in}
+use Rattle.pdl_session.proofs.Grown.{grown_seen}
+use Rattle.pdl_session.proofs.Needs.{read_live}
+
+-- each of these arrays has its root in both worlds
+abbrev HaveSameRoots : World → World → List ℕ → Type 0
+HaveSameRoots w z [] = Unit {0}
+HaveSameRoots w z (v ∷ vs) = (root_of z v ≡ root_of w v) × HaveSameRoots w z vs
+
+roots_before : (w z : World) (us vs : List ℕ) → HaveSameRoots w z (us ++ vs) → HaveSameRoots w z us
+roots_before w z [] vs same = tt
+roots_before w z (u ∷ us) vs same = (same.0, roots_before w z us vs same.1)
+
+roots_behind : (w z : World) (us vs : List ℕ) → HaveSameRoots w z (us ++ vs) → HaveSameRoots w z vs
+roots_behind w z [] vs same = same
+roots_behind w z (u ∷ us) vs same = roots_behind w z us vs same.1
+
+reads_same : (w z : World) (roots ks : List ℕ) → HaveSameRoots w z ks → list_any (λ k. is_listed roots (root_of z k)) ks ≡ list_any (λ k. is_listed roots (root_of w k)) ks
+reads_same w z roots [] same = refl
+reads_same w z roots (k ∷ ks) same =
+    ap (λ r. is_listed roots r || list_any (λ k. is_listed roots (root_of z k)) ks) same.0
+    ∙ ap (λ b. is_listed roots (root_of w k) || b) (reads_same w z roots ks same.1)
+
+-- where roots are the same, the same flows are affected
+affected_same : (w z : World) (flows : Flows) (roots : List ℕ) → HaveSameRoots w z (all_read flows) → affected z flows roots ≡ affected w flows roots
+affected_same w z [] roots same = refl
+affected_same w z (f ∷ flows) roots same =
+    let here = roots_before w z (arrays_in f.formula) (all_read flows) same in
+    let rest = roots_behind w z (arrays_in f.formula) (all_read flows) same in
+    ap (λ (b : Bool). if b then f ∷ affected z flows (f.root ∷ roots) else affected z flows roots) (reads_same w z roots (arrays_in f.formula) here)
+    ∙ ap (λ (fs : Flows). if reads_from w f roots then f ∷ fs else affected z flows roots) (affected_same w z flows (f.root ∷ roots) rest)
+    ∙ ap (λ (fs : Flows). if reads_from w f roots then f ∷ affected w flows (f.root ∷ roots) else fs) (affected_same w z flows roots rest)
+
+-- roots stay where arrays come
+grown_root : OlderStay → (old new : Arrays) (v : ℕ) → AreGrown old new → IsSound new.world → IsLive old.world v → root_of new.world v ≡ root_of old.world v
+grown_root older old new v grown sound live = ap (λ o. option_map_or (λ (l : Look). l.root) o v) (grown_seen older old new v grown sound live)
+
+grown_roots : OlderStay → (old new : Arrays) (vs : List ℕ) → AreGrown old new → IsSound new.world → AreLive old.world vs → HaveSameRoots old.world new.world vs
+grown_roots older old new [] grown sound live = tt
+grown_roots older old new (v ∷ vs) grown sound live = (grown_root older old new v grown sound live.0, grown_roots older old new vs grown sound live.1)
+
+-- a target is of the same root once its value came
+pub late_root : OlderStay → (mid late : Scope) (v : ℕ) → Grows mid late → IsWhole (machine late) → IsLive mid.arrays.world v → root_of late.arrays.world v ≡ root_of mid.arrays.world v
+late_root older mid late v g whole live = grown_root older mid.arrays late.arrays v g.arrays whole.sound live
+
+-- it is no flow's still
+pub late_unflowed : OlderStay → (mid late : Scope) (v : ℕ) → Grows mid late → IsWhole (machine late) → IsLive mid.arrays.world v → is_flow mid.flows (root_of mid.arrays.world v) ≡ false
+    → is_flow late.flows (root_of late.arrays.world v) ≡ false
+late_unflowed older mid late v g whole live h =
+    ap (λ (fs : Flows). is_flow fs (root_of late.arrays.world v)) g.flows ∙ ap (is_flow mid.flows) (late_root older mid late v g whole live) ∙ h
+
+-- and affects the same flows
+pub late_affected : OlderStay → (mid late : Scope) (v : ℕ) → Grows mid late → IsWhole (machine mid) → IsWhole (machine late) → IsLive mid.arrays.world v
+    → affected late.arrays.world late.flows (root_of late.arrays.world v ∷ []) ≡ affected mid.arrays.world mid.flows (root_of mid.arrays.world v ∷ [])
+late_affected older mid late v g whole after live =
+    ap (λ (fs : Flows). affected late.arrays.world fs (root_of late.arrays.world v ∷ [])) g.flows
+    ∙ ap (λ r. affected late.arrays.world mid.flows (r ∷ [])) (late_root older mid late v g after live)
+    ∙ affected_same mid.arrays.world late.arrays.world mid.flows (root_of mid.arrays.world v ∷ [])
+    (grown_roots older mid.arrays late.arrays (all_read mid.flows) g.arrays after.sound (read_live mid.arrays mid.flows whole.flows))
+
+-- the flows that a target affects
+pub aimed_affected : (old mid : Scope) (to : Tree) (v : ℕ) → target_in (machine old) to ≡ Ok (mid.arrays, v) → Grows old mid → affected_in old to ≡ affected mid.arrays.world mid.flows (root_of mid.arrays.world v ∷ [])
+aimed_affected old mid to v is g = ap (affected_by old.flows) is ∙ ap (λ (fs : Flows). affected mid.arrays.world fs (root_of mid.arrays.world v ∷ [])) (sym g.flows)
+
+-- also once its value came
+pub assigned_affected : OlderStay → (old mid late : Scope) (to : Tree) (v : ℕ) → target_in (machine old) to ≡ Ok (mid.arrays, v) → IsLive mid.arrays.world v → Grows old mid → Grows mid late → IsWhole (machine mid) → IsWhole (machine late)
+    → affected late.arrays.world late.flows (root_of late.arrays.world v ∷ []) ≡ affected_in old to
+assigned_affected older old mid late to v is live g h whole after = late_affected older mid late v h whole after live ∙ sym (aimed_affected old mid to v is g)
+
+-- ---- where no flow reads an array of the root
+
+none_before : (p : ℕ → Bool) (us vs : List ℕ) → list_any p (us ++ vs) ≡ false → list_any p us ≡ false
+none_before p [] vs h = refl
+none_before p (u ∷ us) vs h = by_test (p u) (λ is. absurd (let t : true ≡ false = rw is at h in cc)) (λ other. rw other (none_before p us vs (rw other at h)))
+
+none_behind : (p : ℕ → Bool) (us vs : List ℕ) → list_any p (us ++ vs) ≡ false → list_any p vs ≡ false
+none_behind p [] vs h = h
+none_behind p (u ∷ us) vs h = by_test (p u) (λ is. absurd (let t : true ≡ false = rw is at h in cc)) (λ other. none_behind p us vs (rw other at h))
+
+-- a formula that reads no array of the root doesn't read from it
+none_read : (w : World) (r : ℕ) (ks : List ℕ) → list_any (λ k. root_of w k == r) ks ≡ false → list_any (λ k. is_listed (r ∷ []) (root_of w k)) ks ≡ false
+none_read w r [] h = refl
+none_read w r (k ∷ ks) h = by_test (root_of w k == r)
+    (λ is. absurd (let t : true ≡ false = rw is at h in cc))
+    (λ other.
+    let apart : (r == root_of w k) ≡ false = by_test (r == root_of w k)
+    (λ same. absurd (let t : (root_of w k == r) ≡ true = eq-eqb (root_of w k) r (sym (eqb-true r (root_of w k) same)) in cc))
+    (λ o. o) in
+    rw apart (none_read w r ks (rw other at h)))
+
+pub unread_alone : (w : World) (flows : Flows) (r : ℕ) → list_any (λ k. root_of w k == r) (all_read flows) ≡ false → affected w flows (r ∷ []) ≡ []
+unread_alone w [] r h = refl
+unread_alone w (f ∷ flows) r h =
+    let here : reads_from w f (r ∷ []) ≡ false = none_read w r (arrays_in f.formula) (none_before (λ k. root_of w k == r) (arrays_in f.formula) (all_read flows) h) in
+    rw here (unread_alone w flows r (none_behind (λ k. root_of w k == r) (arrays_in f.formula) (all_read flows) h))
+
+-- an assignment to v affects none
+pub unread_affects_none : (s : Scope) (v : ℕ) → is_read_from s v ≡ false → affected s.arrays.world s.flows (root_of s.arrays.world v ∷ []) ≡ []
+unread_affects_none s v h = unread_alone s.arrays.world s.flows (root_of s.arrays.world v) h
