@@ -18,6 +18,10 @@ static int64_t x[COUNT], y[COUNT], z[COUNT];
 static volatile int64_t kept;
 
 static void add(void) { for (int i = 0; i < COUNT; i++) z[i] = (int32_t)(x[i] + y[i]); }
+static void times(void) { for (int i = 0; i < COUNT; i++) z[i] = (int32_t)(x[i] * y[i]); }
+static void copy(void) { memcpy(z, x, sizeof z); }
+static void broadcast(void) { for (int j = 0; j < SIDE; j++) for (int i = 0; i < SIDE; i++) z[SIDE * j + i] = (int32_t)(x[SIDE * j + i] + y[i]); }
+static void fill(void) { for (int i = 0; i < COUNT; i++) x[i] = 7; }
 static void add_one(void) { for (int i = 0; i < COUNT; i++) x[i] = (int32_t)(x[i] + 1); }
 static void times_three(void) { for (int i = 0; i < COUNT; i++) x[i] = (int32_t)(x[i] * 3); }
 static void assign(void) { for (int i = 0; i < COUNT; i++) x[i] = (int32_t)y[i]; }
@@ -68,7 +72,8 @@ static int run(const char *program) {
 int main(int argc, char **argv) {
     if (argc == 3 && !strcmp(argv[1], "run")) return run(argv[2]);
     struct { const char *name; void (*run)(void); int count; } loops[] = {
-        {"add", add, COUNT}, {"add_one", add_one, COUNT}, {"times_three", times_three, COUNT},
+        {"add", add, COUNT}, {"times", times, COUNT}, {"copy", copy, COUNT}, {"broadcast", broadcast, COUNT}, {"fill", fill, COUNT},
+        {"add_one", add_one, COUNT}, {"times_three", times_three, COUNT},
         {"assign", assign, COUNT}, {"add_stride", add_stride, COUNT / 2}, {"compound", compound, COUNT},
         {"greater", greater, COUNT}, {"every_second", every_second, COUNT / 2},
         {"sum", sum, COUNT}, {"sumover", sum, COUNT}, {"sumover_rows", rows, COUNT}, {"sumover_turned", columns, COUNT},

@@ -51,7 +51,7 @@ changed_state facts old new hs n v i l s = record {
   holds = holds_alike old new hs s.numbers_are;
   next = refl;
   others = λ u e d f. (let h : has old u ≡ true = live_has facts old u e in
-      let apart : (row_at old u).root ≢ (row_at old v).root = λ q. d (root_are facts old u i.order.still h ∙ q ∙ sym (root_are facts old v i.order.still l)) in
+      let apart : (row_at new u).root ≢ v = λ q. d (root_are facts new u s.order.still (s.has_is u ∙ h) ∙ q) in
       fresh_is facts new u s.order.still (s.has_is u ∙ h) ∙ s.fresh u h apart (sym (fresh_is facts old u i.order.still h) ∙ f));
   waits = λ u e d. (let h : has old u ≡ true = live_has facts old u e in
       let apart : (row_at old u).root ≢ (row_at old v).root = λ q. d (root_are facts old u i.order.still h ∙ q ∙ sym (root_are facts old v i.order.still l)) in

@@ -13,7 +13,8 @@ use Rattle.pdl_nodes.specs.Rows.{Rows, row_at, from, or_newer, NumbersBelow}
 use Rattle.pdl_nodes.specs.Worlds.{def_from, def_of, shape, latest, with_elements, world_of}
 use Rattle.pdl_nodes.specs.declared.origin.Origin.{Origin}
 use Rattle.pdl_nodes.specs.declared.origin.Origin.TheVariants.{Root, View}
-use Rattle.pdl_engine.specs.Looks.{first_from, numbers_in, past, trans_in}
+use Rattle.pdl_registry.specs.Numbered.{first_from}
+use Rattle.pdl_engine.specs.Looks.{array_numbers, past, trans_in}
 use Rattle.pdl_engine.proofs.Stating.{live_has}
 
 -- ---- numbers
@@ -28,18 +29,18 @@ first_last (j ∷ ks) k n =
     either true = refl
     either false = refl
 
-numbers_behind : (f : ℕ → List ℤ) (k : ℕ) (d : ArrayDef) (w : World) → numbers_in (with_elements f ((k, d) ∷ w)) ≡ numbers_in (with_elements f w) ++ k ∷ []
+numbers_behind : (f : ℕ → List ℤ) (k : ℕ) (d : ArrayDef) (w : World) → array_numbers (with_elements f ((k, d) ∷ w)) ≡ array_numbers (with_elements f w) ++ k ∷ []
 numbers_behind f k (root ty ds es) w = refl
 numbers_behind f k (view p t) w = refl
 
-from_with : (f : ℕ → List ℤ) (rs : Rows) (n : ℕ) → from rs n ≡ first_from (numbers_in (with_elements f (shape rs))) n
+from_with : (f : ℕ → List ℤ) (rs : Rows) (n : ℕ) → from rs n ≡ first_from (array_numbers (with_elements f (shape rs))) n
 from_with f [] n = refl
 from_with f ((k, r) ∷ rs) n =
     ap (λ (o : Option ℕ). if nat_le n k then or_newer o k else o) (from_with f rs n)
-    ∙ sym (ap (λ (ks : List ℕ). first_from ks n) (numbers_behind f k (def_of r) (shape rs)) ∙ first_last (numbers_in (with_elements f (shape rs))) k n)
+    ∙ sym (ap (λ (ks : List ℕ). first_from ks n) (numbers_behind f k (def_of r) (shape rs)) ∙ first_last (array_numbers (with_elements f (shape rs))) k n)
 
 -- the oldest row from a number on is the oldest array
-pub from_is : (rs : Rows) (n : ℕ) → from rs n ≡ first_from (numbers_in (world_of rs)) n
+pub from_is : (rs : Rows) (n : ℕ) → from rs n ≡ first_from (array_numbers (world_of rs)) n
 from_is rs n = from_with (latest rs) rs n
 
 -- what comes behind an array is a number of 64 bits

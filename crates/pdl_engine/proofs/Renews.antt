@@ -10,7 +10,7 @@ use Rattle.pdl_world.specs.Cut.{fitted, replaced, reshape, sever}
 use Rattle.pdl_world.specs.World.{elements, root, ArrayDef, view, ty_in, dims_in}
 use Rattle.pdl_nodes.specs.Alike.{numbers, is_fresh_in}
 use Rattle.pdl_nodes.specs.Renewed.{AreRelaid, CanCut, CanRenew, Layouts, renew}
-use Rattle.pdl_nodes.specs.RenewLaws.{RelaidCanRenew, RelaidStay, RenewedAreKnown, RenewedAreOutdated, RenewedAreSettled, RenewedAreSized, RenewingKeepsNumbers, RenewingLeavesFamilies, RenewingMakesRoots, RenewingReshapes, RenewingRoots, RenewingSevers}
+use Rattle.pdl_nodes.specs.RenewLaws.{RelaidCanRenew, RelaidStay, RenewedAreKnown, RenewedAreOutdated, RenewedAreSettled, RenewedAreSized, RenewingKeepsNumbers, RenewingLeavesFamilies, RenewingLeavesOthers, RenewingMakesRoots, RenewingReshapes, RenewingRoots, RenewingSevers}
 use Rattle.pdl_nodes.specs.Families.{InOrder}
 use Rattle.pdl_pull.specs.Filled.{IsKept}
 use Rattle.pdl_push.specs.Settled.{IsSettled}
@@ -27,7 +27,7 @@ use Rattle.pdl_nodes.specs.declared.origin.Origin.{Origin}
 use Rattle.pdl_nodes.specs.declared.origin.Origin.TheVariants.{Root, View}
 use Rattle.pdl_engine.specs.Severed.{BasesAreFresh, ChangesRows, RowsAreSettled}
 use Rattle.pdl_engine.proofs.Fits.{fitted_all, length_fitted}
-use Rattle.pdl_engine.proofs.Readied.{IsFreshly, only_ready}
+use Rattle.pdl_engine.proofs.Readied.{IsFreshly, only_ready, ready_fresh}
 
 elements_count : (facts : RowLaws) → (rs : Rows) (v : ℕ) → IsStill rs → has rs v ≡ true → length (elements (world_of rs) v) ≡ size_of (row_at rs v).triple.dims
 elements_count facts rs v s h = ap length (facts.seen.elements_are rs v s h) ∙ length-map (places_seen rs v) (element_at (latest rs (row_at rs v).root)) ∙ (facts.seen.is_seen rs s v h).count
@@ -81,6 +81,7 @@ pub record RenewFacts : Type 0 where
   pub relaid : RelaidCanRenew
   pub stay : RelaidStay
   pub outdated : RenewedAreOutdated
+  pub others : RenewingLeavesOthers
   pub families : RenewingLeavesFamilies
   pub settled : RenewedAreSettled
   pub known : RenewedAreKnown
@@ -126,11 +127,12 @@ was_renewed facts laws ls old mid new v ds es o z f c n =
       numbers_are = renew_numbers ls mid v ds es ∙ f.ready.alike.numbers_are;
       has_is = λ u. laws.numbers ls mid v ds es u ∙ f.ready.alike.has_is u;
       fresh = λ u h d m. (let g : has mid u ≡ true = f.ready.alike.has_is u ∙ h in
-          let apart : (row_at mid u).root ≢ (row_at mid v).root = λ q. d (sym (f.ready.alike.root_is u) ∙ q ∙ f.ready.alike.root_is v) in
           let s : IsSeen mid u = facts.seen.is_seen mid f.ready.order.still u g in
-          let row : row_at (renew ls mid v ds es) u ≡ row_at mid u = laws.families ls mid v ds es c u g apart in
-          let base : row_at (renew ls mid v ds es) (row_at mid u).base ≡ row_at mid (row_at mid u).base = laws.families ls mid v ds es c (row_at mid u).base s.base_has (λ q. apart (sym s.base_root ∙ q)) in
-          ap (λ (r : Row). (row_at (renew ls mid v ds es) r.base).mark) row ∙ ap (λ (r : Row). r.mark) base ∙ kept.fresh u h d m);
+          let n : IsSeen (renew ls mid v ds es) u = facts.seen.is_seen (renew ls mid v ds es) (laws.roots ls mid v ds es c).0.still u (laws.numbers ls mid v ds es u ∙ g) in
+          let row : row_at (renew ls mid v ds es) u ≡ row_at mid u = laws.others ls mid v ds es c u g d in
+          let base : row_at (renew ls mid v ds es) (row_at mid u).base ≡ row_at mid (row_at mid u).base = laws.others ls mid v ds es c (row_at mid u).base s.base_has
+          (λ q. d (sym n.base_root ∙ ap (λ (r : Row). (row_at (renew ls mid v ds es) r.base).root) row ∙ q)) in
+          ap (λ (r : Row). (row_at (renew ls mid v ds es) r.base).mark) row ∙ ap (λ (r : Row). r.mark) base ∙ ready_fresh old mid f.ready u h m);
       waits = λ u h d. (let g : has mid u ≡ true = f.ready.alike.has_is u ∙ h in
           let apart : (row_at mid u).root ≢ (row_at mid v).root = λ q. d (sym (f.ready.alike.root_is u) ∙ q ∙ f.ready.alike.root_is v) in
           let s : IsSeen mid u = facts.seen.is_seen mid f.ready.order.still u g in

@@ -18,12 +18,12 @@ use Rattle.pdl_world.specs.World.{World, ArrayDef, Look, assign as assigned, dim
 use Rattle.pdl_nodes.specs.Owed.{owed}
 use Rattle.pdl_nodes.specs.Staying.{stays_from}
 use Rattle.pdl_engine.specs.Held.{AreApart, gone_from, held_among, one_less_at, written_back}
-use Rattle.pdl_engine.specs.Looks.{numbers_in}
+use Rattle.pdl_engine.specs.Looks.{array_numbers}
 use Rattle.pdl_engine.specs.Resting.{IsResting}
 use Rattle.pdl_engine.specs.Runs.{Makes, ScriptsAreFollowed, state_at, steps_at}
 use Rattle.pdl_engine.specs.State.{State, base, is_fresh, kept_back, outdated, outdated_at, ready_steps, target, waiting, waiting_at, waiting_size}
 use Rattle.pdl_engine.specs.StateOf.{pending_onto}
-use Rattle.pdl_engine.specs.Worked.{Asks, Call, IsAs, IsWorked, Line, after, assign, but_of, is_lent, lent_in, make, others, ready, release, reshape, sever, shows, state_after, state_then, stay_fresh, steps_of, view, with_root}
+use Rattle.pdl_engine.specs.Worked.{Asks, Call, IsAs, IsWorked, Line, after, assign, but_of, is_lent, lent_beside, lent_in, make, ready, release, reshape, sever, shows, state_after, state_then, stay_fresh, steps_of, view, with_root}
 use Rattle.pdl_engine.proofs.Pending.{append_first, append_second, apart_left, apart_then, but_kept, but_taken, filter_listed, listed_append, listed_filter, waits_here, waits_left, waits_there}
 use Rattle.pdl_engine.proofs.RootsSeen.{live_has, look_past, root_here, root_past, root_stays, seen_live, through_some, view_here}
 use Rattle.pdl_engine.proofs.Unwritten.{root_seen}
@@ -70,8 +70,8 @@ more_of newest older l q f xs ys sound once same more = record {
   next_is = refl;
   once = once;
   waits = same;
-  lent = λ v h. (let two : (is_listed (numbers_in l.world) v ≡ true) × (is_lent xs l v ≡ true) = listed_filter (is_lent xs l) (numbers_in l.world) v h in
-      filter_listed (is_lent ys (over l f q)) (numbers_in l.world) v two.0 (lent_more l q f xs ys v (same v (numbers_live newest older l.world v sound two.0)) more two.1));
+  lent = λ v h. (let two : (is_listed (array_numbers l.world) v ≡ true) × (is_lent xs l v ≡ true) = listed_filter (is_lent xs l) (array_numbers l.world) v h in
+      filter_listed (is_lent ys (over l f q)) (array_numbers l.world) v two.0 (lent_more l q f xs ys v (same v (numbers_live newest older l.world v sound two.0)) more two.1));
 }
 
 -- what waits, but in one family
@@ -89,7 +89,7 @@ older_waits w k v d ps qs n l same =
     ap (waiting_at qs) at ∙ same v (still_live ((k, d) ∷ w) w v (look_past k d w v n) l) ∙ sym (ap (waiting_at ps) at)
 
 -- an array that becomes a root
-numbers_replaced : (w : World) (v : ℕ) (d : ArrayDef) → numbers_in (replaced w v d) ≡ numbers_in w
+numbers_replaced : (w : World) (v : ℕ) (d : ArrayDef) → array_numbers (replaced w v d) ≡ array_numbers w
 numbers_replaced [] v d = refl
 numbers_replaced ((k, e) ∷ w) v d = ap (λ (xs : List ℕ). xs ++ k ∷ []) (numbers_replaced w v d)
 
@@ -110,10 +110,10 @@ rooted_waits newest older w v ty ds es ps qs sound same u l =
       | inr k ↦ but_taken (but_of (root_of w v) qs) v (root_of new u) (at ∙ k.0) ∙ sym (but_taken (but_of (root_of w v) ps) v (root_of new u) (at ∙ k.0))
     ]
 
-others_more : (s : State) (v : ℕ) (f : List ℕ) (q : List (ℕ × ℕ)) → Holds s.fresh f → Holds (others s v) (others (over s f q) v)
-others_more s v f q more b h =
-    let two : (is_listed s.fresh b ≡ true) × (not (root_of s.world b == root_of s.world v) ≡ true) = listed_filter (λ u. not (root_of s.world u == root_of s.world v)) s.fresh b h in
-    filter_listed (λ u. not (root_of s.world u == root_of s.world v)) f b (more b two.0) two.1
+beside_more : (s : State) (w : World) (r : ℕ) (f : List ℕ) (q : List (ℕ × ℕ)) → Holds s.fresh f → Holds (lent_beside s w r) (lent_beside (over s f q) w r)
+beside_more s w r f q more b h =
+    let two : (is_listed s.fresh b ≡ true) × (not (root_of w b == r) ≡ true) = listed_filter (λ u. not (root_of w u == r)) s.fresh b h in
+    filter_listed (λ u. not (root_of w u == r)) f b (more b two.0) two.1
 
 either_first : (k : ℕ) (xs ys : List ℕ) → Holds xs ys → Holds (k ∷ xs) (k ∷ ys)
 either_first k xs ys more b h = elim (eqb_tells k b) [ inl t ↦ rw t.0 refl | inr t ↦ rw t.0 (more b (rw t.0 at h)) ]
@@ -166,7 +166,7 @@ then_more facts s f q (assign v vs) sound left_sound once apart same more =
     let w : World = assigned s.world v vs in
     let r : ℕ = root_of s.world v in
     let o : Option ℕ = kept_back s.world v in
-    more_of facts.newest facts.older (state_after s (assign v vs)) (pending_onto r o (but_of r q)) f (target s.world v ∷ others s v) (target s.world v ∷ others (over s f q) v) left_sound (apart_then r o s.pending once)
+    more_of facts.newest facts.older (state_after s (assign v vs)) (pending_onto r o (but_of r q)) f (target s.world v ∷ lent_beside s s.world r) (target s.world v ∷ lent_beside (over s f q) s.world r) left_sound (apart_then r o s.pending once)
     (λ u l. (let at : root_of w u ≡ root_of s.world u = root_by w s.world u (facts.looks s.world v u vs) in
     let was : IsLive s.world u = still_live w s.world u (facts.looks s.world v u vs) l in
     ap (waiting_at (pending_onto r o (but_of r q))) at
@@ -177,18 +177,18 @@ then_more facts s f q (assign v vs) sound left_sound once apart same more =
           ∙ sym (waits_there r (root_of s.world u) o (but_of r s.pending) (λ x. e.1 (sym x)))
     ]
     ∙ sym (ap (waiting_at (pending_onto r o (but_of r s.pending))) at)))
-    (either_first (target s.world v) (others s v) (others (over s f q) v) (others_more s v f q more))
+    (either_first (target s.world v) (lent_beside s s.world r) (lent_beside (over s f q) s.world r) (beside_more s s.world r f q more))
 then_more facts s f q (sever v) sound left_sound once apart same more = elim (eqb_tells (root_of s.world v) v) [
   | inl t ↦ rw t.0 (more_of facts.newest facts.older s q f s.fresh f sound once same more)
   | inr t ↦ (let cut_sound : IsSound (cut s.world v) = rw t.0 at left_sound in
-      rw t.0 (more_of facts.newest facts.older (with_root s v (cut s.world v)) (but_of v (but_of (root_of s.world v) q)) f (others s v) (others (over s f q) v) cut_sound
+      rw t.0 (more_of facts.newest facts.older (with_root s v (cut s.world v)) (but_of v (but_of (root_of s.world v) q)) f (lent_beside s (cut s.world v) v) (lent_beside (over s f q) (cut s.world v) v) cut_sound
       (apart_left (λ p. not (p.0 == v)) (but_of (root_of s.world v) s.pending) (apart_left (λ p. not (p.0 == root_of s.world v)) s.pending once))
-      (rooted_waits facts.newest facts.older s.world v (ty_in s.world v) (dims_in s.world v) (elements s.world v) s.pending q sound same) (others_more s v f q more)))
+      (rooted_waits facts.newest facts.older s.world v (ty_in s.world v) (dims_in s.world v) (elements s.world v) s.pending q sound same) (beside_more s (cut s.world v) v f q more)))
 ]
 then_more facts s f q (reshape v ds) sound left_sound once apart same more =
-    more_of facts.newest facts.older (with_root s v (reshaped s.world v ds)) (but_of v (but_of (root_of s.world v) q)) f (others s v) (others (over s f q) v) left_sound
+    more_of facts.newest facts.older (with_root s v (reshaped s.world v ds)) (but_of v (but_of (root_of s.world v) q)) f (lent_beside s (reshaped s.world v ds) v) (lent_beside (over s f q) (reshaped s.world v ds) v) left_sound
     (apart_left (λ p. not (p.0 == v)) (but_of (root_of s.world v) s.pending) (apart_left (λ p. not (p.0 == root_of s.world v)) s.pending once))
-    (rooted_waits facts.newest facts.older s.world v (ty_in s.world v) ds (fitted (size_of ds) (elements s.world v)) s.pending q sound same) (others_more s v f q more)
+    (rooted_waits facts.newest facts.older s.world v (ty_in s.world v) ds (fitted (size_of ds) (elements s.world v)) s.pending q sound same) (beside_more s (reshaped s.world v ds) v f q more)
 then_more facts s f q (release v) sound left_sound once apart same more =
     let held : List ℕ = held_among (one_less_at s.holds v) in
     let w : World = sweep s.world held in

@@ -21,10 +21,10 @@ use Rattle.pdl_world.specs.declared.Trans.{Trans}
 use Rattle.pdl_nodes.specs.Staying.{stays_from}
 use Rattle.pdl_push.specs.Targets.{target_of}
 use Rattle.pdl_engine.specs.Held.{AreApart, ChangesFamily, FamilyIsSettled, IsReleased, count_at, held_among, holds_left, left_from, one_less_at, written_back}
-use Rattle.pdl_engine.specs.Looks.{numbers_in}
+use Rattle.pdl_engine.specs.Looks.{array_numbers}
 use Rattle.pdl_engine.specs.Resting.{IsResting}
 use Rattle.pdl_engine.specs.State.{State, AreWaiting, IsLazy, Joins, OthersWait, PathIsFresh, SameArrays, StayFresh, TargetIsFresh, TargetWaits, base, is_fresh, kept_back, ready_steps, target, waiting, waiting_at}
-use Rattle.pdl_engine.specs.Worked.{Asks, Call, IsSpare, IsWorked, MayBeLent, assign, but_of, is_exact, is_lent, make, others, ready, release, reshape as reshaped, sever, state_after, stay_fresh, steps_of, view, with_root, with_settled}
+use Rattle.pdl_engine.specs.Worked.{Asks, Call, IsSpare, IsWorked, MayBeLent, assign, but_of, is_exact, is_lent, lent_beside, make, ready, release, reshape as reshaped, sever, state_after, stay_fresh, steps_of, view, with_root, with_settled}
 use Rattle.pdl_engine.proofs.Pending.{all_listed, apart_left, apart_then, append_first, append_second, but_kept, but_taken, filter_listed, listed_append, listed_filter, waits_here, waits_left, waits_there}
 use Rattle.pdl_engine.proofs.RootsSeen.{base_root, live_has, live_some, look_past, root_below, root_here, root_past, root_root, root_stays, seen_live, some_live, through_some, view_here}
 
@@ -64,9 +64,9 @@ same_waits : (new left : State) (v : ℕ) → new.world ≡ left.world → new.p
 same_waits new left v w p = ap (λ x. waiting_at x (root_of new.world v)) p ∙ ap (λ x. waiting_at left.pending (root_of x v)) w
 
 -- the arrays of a sound world are its numbers
-pub numbers_live : NewIsLive → OlderStay → (w : World) (v : ℕ) → IsSound w → is_listed (numbers_in w) v ≡ true → IsLive w v
+pub numbers_live : NewIsLive → OlderStay → (w : World) (v : ℕ) → IsSound w → is_listed (array_numbers w) v ≡ true → IsLive w v
 numbers_live newest older [] v s h = let z : false ≡ true = h in absurd (cc)
-numbers_live newest older ((k, d) ∷ w) v s h = elim (listed_append (numbers_in w) (k ∷ []) v h) [
+numbers_live newest older ((k, d) ∷ w) v s h = elim (listed_append (array_numbers w) (k ∷ []) v h) [
   | inl i ↦ (let l : IsLive w v = numbers_live newest older w v s.2 i in still_live w ((k, d) ∷ w) v (sym (older w k v d s.0 l)) l)
   | inr i ↦ elim (eqb_tells k v) [
     | inl e ↦ subst (λ x. IsLive ((k, d) ∷ w) x) e.1 (newest w k d s.1)
@@ -74,12 +74,12 @@ numbers_live newest older ((k, d) ∷ w) v s h = elim (listed_append (numbers_in
   ]
 ]
 
-pub live_numbers : (w : World) (v : ℕ) → IsLive w v → is_listed (numbers_in w) v ≡ true
+pub live_numbers : (w : World) (v : ℕ) → IsLive w v → is_listed (array_numbers w) v ≡ true
 live_numbers w v l = (let there : (d : ArrayDef) × Has w v d = live_has w v l in has_number w v there.0 there.1) where
-  has_number : (w : World) (v : ℕ) (d : ArrayDef) → Has w v d → is_listed (numbers_in w) v ≡ true
+  has_number : (w : World) (v : ℕ) (d : ArrayDef) → Has w v d → is_listed (array_numbers w) v ≡ true
   has_number [] v d h = absurd h
-  has_number ((k, e) ∷ w) v d (inl same) = append_second (numbers_in w) (k ∷ []) v (rw (eq-eqb k v same.0) refl)
-  has_number ((k, e) ∷ w) v d (inr i) = append_first (numbers_in w) (k ∷ []) v (has_number w v d i)
+  has_number ((k, e) ∷ w) v d (inl same) = append_second (array_numbers w) (k ∷ []) v (rw (eq-eqb k v same.0) refl)
+  has_number ((k, e) ∷ w) v d (inr i) = append_first (array_numbers w) (k ∷ []) v (has_number w v d i)
 
 -- where something waits in the family of an array, and where it is shown over its root, no more can be lent
 only_by : (new left : State) (stay : List ℕ) (v : ℕ) → IsLazy new → new.world ≡ left.world → IsLive new.world v → waiting new v ≡ waiting left v
@@ -115,11 +115,11 @@ worked_of newest older old new c before after asks sound once l only most exact 
         next_is = l.next_is;
         once = once;
         waits = l.waits;
-        lent = λ v f. (let two : (is_listed (numbers_in left.world) v ≡ true) × (is_lent stay left v ≡ true) = listed_filter (is_lent stay left) (numbers_in left.world) v f in
-            l.lent v (numbers_live newest older new.world v sound (subst (λ (x : World). is_listed (numbers_in x) v ≡ true) (sym l.world_is) two.0)) two.1);
+        lent = λ v f. (let two : (is_listed (array_numbers left.world) v ≡ true) × (is_lent stay left v ≡ true) = listed_filter (is_lent stay left) (array_numbers left.world) v f in
+            l.lent v (numbers_live newest older new.world v sound (subst (λ (x : World). is_listed (array_numbers x) v ≡ true) (sym l.world_is) two.0)) two.1);
       };
       only = λ v g f. elim (cases_Bool (is_lent stay left v)) [
-        | inl y ↦ inl (filter_listed (is_lent stay left) (numbers_in left.world) v (subst (λ (x : World). is_listed (numbers_in x) v ≡ true) l.world_is (live_numbers new.world v g)) y)
+        | inl y ↦ inl (filter_listed (is_lent stay left) (array_numbers left.world) v (subst (λ (x : World). is_listed (array_numbers x) v ≡ true) l.world_is (live_numbers new.world v g)) y)
         | inr n ↦ inr (only v g f n)
       ];
       counted = most;
@@ -134,9 +134,17 @@ left_was : (t : ℕ → Bool) (o : Option ℕ) (b : ℕ) → stays_from t o ≡ 
 left_was t None b e = e
 left_was t (Some v) b e = elim (cases_Bool (t v)) [ inl y ↦ rw y at e | inr y ↦ absurd (not_some b (rw y at e)) ]
 
--- those of other families that can be lent
-other_listed : (s : State) (v b : ℕ) → is_fresh s b ≡ true → (root_of s.world b ≡ root_of s.world v → ⊥) → is_listed (others s v) b ≡ true
-other_listed s v b f n = filter_listed (λ u. not (root_of s.world u == root_of s.world v)) s.fresh b f (ap not (ne_eqb (root_of s.world b) (root_of s.world v) n))
+unlike : (a b : ℕ) → not (a == b) ≡ true → a ≡ b → ⊥
+unlike a b n e = let z : false ≡ true = sym (ap not (eq-eqb a b e)) ∙ n in absurd (cc)
+
+-- those that can be lent and have another root
+beside_listed : (s : State) (w : World) (r b : ℕ) → is_fresh s b ≡ true → (root_of w b ≡ r → ⊥) → is_listed (lent_beside s w r) b ≡ true
+beside_listed s w r b f n = filter_listed (λ u. not (root_of w u == r)) s.fresh b f (ap not (ne_eqb (root_of w b) r n))
+
+beside_is : (s : State) (w : World) (r b : ℕ) → is_listed (lent_beside s w r) b ≡ true → (is_fresh s b ≡ true) × (root_of w b ≡ r → ⊥)
+beside_is s w r b i =
+    let two : (is_listed s.fresh b ≡ true) × (not (root_of w b == r) ≡ true) = listed_filter (λ u. not (root_of w u == r)) s.fresh b i in
+    (two.0, unlike (root_of w b) r two.1)
 
 first_is : (k : ℕ) (ks : List ℕ) (b : ℕ) → k ≡ b → is_listed (k ∷ ks) b ≡ true
 first_is k ks b e = rw (eq-eqb k b e) refl
@@ -256,9 +264,6 @@ readied_so newest older old new v before after o r lv s stay fresh none others c
       | inr e ↦ append_second (path old.world v) old.fresh b ((o.lazy.waits u b lu (sym (others u lu e.1) ∙ t)).fresh)
     ])) f h) c (λ x. (let z : false ≡ true = x in absurd (cc)))
 
-unlike : (a b : ℕ) → not (a == b) ≡ true → a ≡ b → ⊥
-unlike a b n e = let z : false ≡ true = sym (ap not (eq-eqb a b e)) ∙ n in absurd (cc)
-
 target_root : WindowsShowArrays → (s : State) (v : ℕ) → IsResting s → IsLive s.world v → root_of s.world (target s.world v) ≡ root_of s.world v
 target_root shows s v r l = from (has_repeats (places_in s.world (base s.world v))) where
   from : (b : Bool) → root_of s.world (target_of b (root_of s.world v) (base s.world v)) ≡ root_of s.world v
@@ -290,22 +295,21 @@ assigned_so newest older looks bases shows old new v before after vs o r lv same
       holds_are = hs;
       next_is = next;
       waits = waits;
-      lent = λ u l h. lent_by new left (target old.world v ∷ others old v) u r.lazy same l (waits u l)
+      lent = λ u l h. lent_by new left (target old.world v ∷ lent_beside old old.world (root_of old.world v)) u r.lazy same l (waits u l)
           (λ f. (let one : base (assigned old.world v vs) u ≡ base old.world u = (bases old.world v u vs).base_is in
           elim (eqb_tells (target old.world v) (base (assigned old.world v vs) u)) [
             | inl e ↦ target_fresh u (was u l) (sym (base_root shows old.world u o.sound) ∙ ap (root_of old.world) (sym one ∙ sym e.1) ∙ target_root shows old v o lv) (sym one ∙ sym e.1)
-            | inr e ↦ (let listed : (is_listed old.fresh (base (assigned old.world v vs) u) ≡ true) × (not (root_of old.world (base (assigned old.world v vs) u) == root_of old.world v) ≡ true) =
-                listed_filter (λ x. not (root_of old.world x == root_of old.world v)) old.fresh (base (assigned old.world v vs) u) (rw e.0 at f) in
-                base_lent new (assigned old.world v vs) u r.lazy same l (apart (base (assigned old.world v vs) u) (unlike (root_of old.world (base (assigned old.world v vs) u)) (root_of old.world v) listed.1) listed.0))
+            | inr e ↦ (let beside = beside_is old old.world (root_of old.world v) (base (assigned old.world v vs) u) (rw e.0 at f) in
+                base_lent new (assigned old.world v vs) u r.lazy same l (apart (base (assigned old.world v vs) u) beside.1 beside.0))
           ])) h;
     })
-    (λ u l f h. only_by new left (target old.world v ∷ others old v) u r.lazy same l (waits u l)
+    (λ u l f h. only_by new left (target old.world v ∷ lent_beside old old.world (root_of old.world v)) u r.lazy same l (waits u l)
     (λ b t. (let told : waiting new u ≡ cond (eqb (root_of old.world u) (root_of old.world v)) (kept_back old.world v) (waiting old u) = target_waits u (was u l) in
     elim (eqb_tells (root_of old.world u) (root_of old.world v)) [
-      | inl e ↦ (let here : kept_back old.world v ≡ Some b = sym (rw e.0 at told) ∙ t in first_is (target old.world v) (others old v) b (kept_target old.world v b here))
+      | inl e ↦ (let here : kept_back old.world v ≡ Some b = sym (rw e.0 at told) ∙ t in first_is (target old.world v) (lent_beside old old.world (root_of old.world v)) b (kept_target old.world v b here))
       | inr e ↦ (let there : waiting old u ≡ Some b = sym (rw e.0 at told) ∙ t in
           let a : AreWaiting old u b = o.lazy.waits u b (was u l) there in
-          later_is (target old.world v) (others old v) b (other_listed old v b a.fresh (λ q. e.1 (sym a.family ∙ q))))
+          later_is (target old.world v) (lent_beside old old.world (root_of old.world v)) b (beside_listed old old.world (root_of old.world v) b a.fresh (λ q. e.1 (sym a.family ∙ q))))
     ])) f h) (omega (arith, c)) (λ x. c)
 
 -- the same arrays are held, so the same are there
@@ -316,8 +320,9 @@ held_live old new u o r h l =
 -- an array that becomes a root, by a cut or by other dimensions
 rooted_so : (old new : State) (v : ℕ) (ty : Ty) (ds : List ℕ) (es : List ℤ) → IsResting old → IsResting new → IsLive old.world v → new.world ≡ replaced old.world v (root ty ds es)
     → ChangesFamily old v new → FamilyIsSettled old v new
-    → Leaves (with_root old v (replaced old.world v (root ty ds es))) (others old v) new
-    × ((u : ℕ) → IsLive new.world u → is_fresh new u ≡ true → is_lent (others old v) (with_root old v (replaced old.world v (root ty ds es))) u ≡ false → IsSpare (with_root old v (replaced old.world v (root ty ds es))) u)
+    → Leaves (with_root old v (replaced old.world v (root ty ds es))) (lent_beside old (replaced old.world v (root ty ds es)) v) new
+    × ((u : ℕ) → IsLive new.world u → is_fresh new u ≡ true → is_lent (lent_beside old (replaced old.world v (root ty ds es)) v) (with_root old v (replaced old.world v (root ty ds es))) u ≡ false
+    → IsSpare (with_root old v (replaced old.world v (root ty ds es))) u)
 rooted_so old new v ty ds es o r lv same f settled =
     let w : World = replaced old.world v (root ty ds es) in
     let left : State = with_root old v w in
@@ -346,15 +351,16 @@ rooted_so old new v ty ds es o r lv same f settled =
         holds_are = f.holds;
         next_is = f.next;
         waits = waits;
-        lent = λ u l h. lent_by new left (others old v) u r.lazy same l (waits u l)
-            (λ g. (let listed : (is_listed old.fresh (base w u) ≡ true) × (not (root_of old.world (base w u) == root_of old.world v) ≡ true) = listed_filter (λ x. not (root_of old.world x == root_of old.world v)) old.fresh (base w u) g in
-            base_lent new w u r.lazy same l (f.others (base w u) (o.live (base w u) listed.0) (unlike (root_of old.world (base w u)) (root_of old.world v) listed.1) listed.0))) h;
+        lent = λ u l h. lent_by new left (lent_beside old w v) u r.lazy same l (waits u l)
+            (λ g. (let beside = beside_is old w v (base w u) g in
+            base_lent new w u r.lazy same l (f.others (base w u) (o.live (base w u) beside.0) (λ q. beside.1 (ap (λ x. root_of x (base w u)) (sym same) ∙ q)) beside.0))) h;
       },
-      λ u l g h. only_by new left (others old v) u r.lazy same l (waits u l)
+      λ u l g h. only_by new left (lent_beside old w v) u r.lazy same l (waits u l)
           (λ b t. elim (eqb_tells (root_of old.world u) (root_of old.world v)) [
             | inl e ↦ absurd (not_some b (sym (settled u (was u l) e.1) ∙ t))
             | inr e ↦ (let a : AreWaiting old u b = o.lazy.waits u b (was u l) (sym (f.waits u (was u l) e.1) ∙ t) in
-                other_listed old v b a.fresh (λ q. e.1 (sym a.family ∙ q)))
+                let there : IsLive w b = in_world new.world w b same (held_live new old b r o (sym f.holds) a.live) in
+                beside_listed old w v b a.fresh (apart_stays b a.live there (λ q. e.1 (sym a.family ∙ q))))
           ]) g h,
     )
   where
@@ -363,6 +369,19 @@ rooted_so old new v ty ds es o r lv same f settled =
 
     none_of : (ps : List (ℕ × ℕ)) (q r : ℕ) → waiting_at ps r ≡ None → waiting_at (but_of q ps) r ≡ None
     none_of ps q r e = elim (eqb_tells r q) [ inl t ↦ but_taken ps q r t.1 | inr t ↦ but_kept ps q r t.1 ∙ e ]
+
+    -- what was of another family has another root still
+    apart_stays : (u : ℕ) → IsLive old.world u → IsLive (replaced old.world v (root ty ds es)) u → (root_of old.world u ≡ root_of old.world v → ⊥) → root_of (replaced old.world v (root ty ds es)) u ≡ v → ⊥
+    apart_stays u before now n q =
+        let w : World = replaced old.world v (root ty ds es) in
+        let before_is : (x : Look) × (look old.world u ≡ Some x) = seen_live (look old.world u) before in
+        let now_is : (x : Look) × (look w u ≡ Some x) = seen_live (look w u) now in
+        let own : root_of old.world u ≡ before_is.0.root = root_seen old.world u before_is.0 before_is.1 in
+        let at : root_of w u ≡ now_is.0.root = root_seen w u now_is.0 now_is.1 in
+        elim (root_stays old.world v ty ds es u before_is.0 now_is.0 o.sound before_is.1 now_is.1) [
+          | inl k ↦ n (sym (ap (root_of old.world) own ∙ root_root old.world u before_is.0 o.sound before_is.1 ∙ sym own) ∙ ap (root_of old.world) (own ∙ sym k ∙ sym at ∙ q))
+          | inr k ↦ n (own ∙ k.1)
+        ]
 
 -- of the views of an array with other dimensions those can be lent whose base it is
 none_spare : (s : State) (v u : ℕ) (b : Bool) → root_of s.world u ≡ v → IsSpare s u → b ≡ (base s.world u == v) → b ≡ true → ⊥
@@ -375,7 +394,8 @@ pub reshaped_so : NewIsLive → OlderStay → (old new : State) (v before after 
     → ((u : ℕ) → IsLive old.world u → root_of new.world u ≡ v → is_fresh new u ≡ (base new.world u == v)) → after ≤ before + (ready_steps old v + size_of ds) → IsWorked old (reshaped v ds) new before after
 reshaped_so newest older old new v before after ds o r l same f settled outdated c =
     let left : State = state_after old (reshaped v ds) in
-    let two : Leaves left (others old v) new × ((u : ℕ) → IsLive new.world u → is_fresh new u ≡ true → is_lent (others old v) left u ≡ false → IsSpare left u) =
+    let beside : List ℕ = lent_beside old (reshape old.world v ds) v in
+    let two : Leaves left beside new × ((u : ℕ) → IsLive new.world u → is_fresh new u ≡ true → is_lent beside left u ≡ false → IsSpare left u) =
     rooted_so old new v (ty_in old.world v) ds (fitted (size_of ds) (elements old.world v)) o r l same f settled in
     worked_of newest older old new (reshaped v ds) before after l r.sound (apart_left (λ p. not (p.0 == v)) (but_of (root_of old.world v) old.pending) (apart_left (λ p. not (p.0 == root_of old.world v)) old.pending o.once)) two.0
     (λ u g h e. (let spare : IsSpare left u = two.1 u g h e in (
@@ -409,15 +429,16 @@ severed_so newest older old new v before after o r l uncut spent same f settled 
       (omega (arith, none)) (λ x. omega (arith, none, few)))
   | inr t ↦ (let w : World = cut old.world v in
       let cuts : state_after old (sever v) ≡ with_root old v w = rw t.0 refl in
-      let others_are : stay_fresh old (sever v) ≡ others old v = rw t.0 refl in
+      let beside : List ℕ = lent_beside old w v in
+      let others_are : stay_fresh old (sever v) ≡ beside = rw t.0 refl in
       let most : steps_of old (sever v) ≡ ready_steps old v + size_of (dims_in old.world v) = rw t.0 refl in
-      let two : Leaves (with_root old v w) (others old v) new × ((u : ℕ) → IsLive new.world u → is_fresh new u ≡ true → is_lent (others old v) (with_root old v w) u ≡ false → IsSpare (with_root old v w) u) =
+      let two : Leaves (with_root old v w) beside new × ((u : ℕ) → IsLive new.world u → is_fresh new u ≡ true → is_lent beside (with_root old v w) u ≡ false → IsSpare (with_root old v w) u) =
       rooted_so old new v (ty_in old.world v) (dims_in old.world v) (elements old.world v) o r l same f (settled t.1) in
       worked_of newest older old new (sever v) before after l r.sound
       (subst (λ (s : State). AreApart (map (λ p. p.0) s.pending)) (sym cuts) (apart_left (λ p. not (p.0 == v)) (but_of (root_of old.world v) old.pending) (apart_left (λ p. not (p.0 == root_of old.world v)) old.pending o.once)))
       (subst (λ (s : State). Leaves s (stay_fresh old (sever v)) new) (sym cuts) (subst (λ (xs : List ℕ). Leaves (with_root old v w) xs new) (sym others_are) two.0))
       (λ u g h e. subst (λ (s : State). IsSpare s u) (sym cuts) (two.1 u g h
-      (subst (λ (s : State). is_lent (others old v) s u ≡ false) cuts (subst (λ (xs : List ℕ). is_lent xs (state_after old (sever v)) u ≡ false) others_are e))))
+      (subst (λ (s : State). is_lent beside s u ≡ false) cuts (subst (λ (xs : List ℕ). is_lent xs (state_after old (sever v)) u ≡ false) others_are e))))
       (omega (arith, c, most)) (λ x. (let z : false ≡ true = sym t.0 ∙ x in absurd (cc))))
 ]
 

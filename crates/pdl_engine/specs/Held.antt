@@ -45,14 +45,14 @@ AllHaveHolds s = (v : ℕ) → is_listed (holders s.holds) v ≡ is_some (look s
 abbrev pub holds_left : World → List (ℕ × ℕ) → List (ℕ × ℕ)
 holds_left w hs = staying (λ k. is_some (look w k)) hs
 
--- the family of v was changed alone: arrays are held as before; in other families those can be lent
--- that could be, and what waited waits
+-- the family of v was changed alone: arrays are held as before; those whose root isn't v now, also
+-- of the family that v had, can be lent that could be; and in other families what waited waits
 pub record ChangesFamily (old : State) (v : ℕ) (new : State) : Type 0 where
   pub holds : new.holds ≡ old.holds
   pub next : new.next ≡ old.next
   pub others :
-      (u : ℕ) → IsLive old.world u → root_of old.world u ≢ root_of old.world v
-      → is_fresh old u ≡ true → is_fresh new u ≡ true
+      (u : ℕ) → IsLive old.world u → root_of new.world u ≢ v → is_fresh old u ≡ true
+      → is_fresh new u ≡ true
   pub waits : OthersWait old v new
 
 -- wherever the arrays of the family of v are now, nothing waits

@@ -1,17 +1,12 @@
 -- The arrays of a world one after another, and how its views were made.
-use Rattle.std.specs.Prelude.{ℕ, ◌+◌, ◌==◌, nat_le, if◌then◌else◌, List, [], ◌∷◌, ◌++◌, Option, Some, None}
+use Rattle.std.specs.Prelude.{ℕ, ◌+◌, ◌==◌, if◌then◌else◌, List, [], ◌∷◌, ◌++◌, Option, Some, None}
 use Rattle.pdl_world.specs.declared.Trans.{Trans}
 use Rattle.pdl_world.specs.World.{World, root, view}
 
 -- the numbers of all arrays, the oldest first
-abbrev pub numbers_in : World → List ℕ
-numbers_in [] = []
-numbers_in ((k, d) ∷ w) = numbers_in w ++ k ∷ []
-
--- the first of these numbers that isn't below n
-abbrev pub first_from : List ℕ → (n : ℕ) → Option ℕ
-first_from [] n = None
-first_from (k ∷ ks) n = if nat_le n k then Some k else first_from ks n
+abbrev pub array_numbers : World → List ℕ
+array_numbers [] = []
+array_numbers ((k, d) ∷ w) = array_numbers w ++ k ∷ []
 
 -- the number behind this one, and 0 behind none
 abbrev pub past : Option ℕ → ℕ

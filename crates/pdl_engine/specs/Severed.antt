@@ -7,8 +7,8 @@ use Rattle.pdl_nodes.specs.Outcomes.{waiting_of}
 use Rattle.pdl_nodes.specs.Rows.{Rows, row_at, has}
 use Rattle.pdl_nodes.specs.Sized.{AreSized}
 
--- all is in order, the same arrays are there, and in other families than that of v those can be
--- lent that could be, and what waited waits
+-- all is in order, the same arrays are there; those whose root isn't v now can be lent that could
+-- be, and in other families than that of v what waited waits
 pub record ChangesRows (old : Rows) (v : ℕ) (new : Rows) : Type 0 where
   pub order : InOrder new
   pub known : AreKnown new
@@ -16,8 +16,8 @@ pub record ChangesRows (old : Rows) (v : ℕ) (new : Rows) : Type 0 where
   pub numbers_are : numbers new ≡ numbers old
   pub has_is : (u : ℕ) → has new u ≡ has old u
   pub fresh :
-      (u : ℕ) → has old u ≡ true → (row_at old u).root ≢ (row_at old v).root
-      → is_fresh_in old u ≡ true → is_fresh_in new u ≡ true
+      (u : ℕ) → has old u ≡ true → (row_at new u).root ≢ v → is_fresh_in old u ≡ true
+      → is_fresh_in new u ≡ true
   pub waits :
       (u : ℕ) → has old u ≡ true → (row_at old u).root ≢ (row_at old v).root
       → waiting_of new u ≡ waiting_of old u

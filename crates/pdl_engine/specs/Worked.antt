@@ -21,7 +21,7 @@ use Rattle.pdl_world.specs.Paths.{path, root_of}
 use Rattle.pdl_world.specs.Sound.{IsLive}
 use Rattle.pdl_world.specs.Swept.{is_listed, sweep}
 use Rattle.pdl_engine.specs.Held.{AreApart, count_at, one_less_at, held_among, holds_left, written_back}
-use Rattle.pdl_engine.specs.Looks.{numbers_in}
+use Rattle.pdl_engine.specs.Looks.{array_numbers}
 use Rattle.pdl_engine.specs.State.{State, no_arrays, is_fresh, base, target, waiting, ready_steps, kept_back}
 use Rattle.pdl_engine.specs.StateOf.{pending_onto}
 
@@ -101,18 +101,19 @@ steps_of s (release v) =
     let left = (state_after s (release v)).world in
     written_back s left left
 
--- those of other families than v's that can be lent
-abbrev pub others : State → ℕ → List ℕ
-others s v = filter (λ u. not (root_of s.world u == root_of s.world v)) s.fresh
+-- those that can be lent and have another root than r in this world
+abbrev pub lent_beside : State → World → (r : ℕ) → List ℕ
+lent_beside s w r = filter (λ u. not (root_of w u == r)) s.fresh
 
 -- the arrays that a call leaves or makes so that they can be lent
 abbrev pub stay_fresh : State → Call → List ℕ
 stay_fresh s (make ds es) = s.fresh
 stay_fresh s (view p t) = s.fresh
 stay_fresh s (ready v) = path s.world v ++ s.fresh
-stay_fresh s (assign v vs) = target s.world v ∷ others s v
-stay_fresh s (sever v) = if root_of s.world v == v then s.fresh else others s v
-stay_fresh s (reshape v ds) = others s v
+stay_fresh s (assign v vs) = target s.world v ∷ lent_beside s s.world (root_of s.world v)
+stay_fresh s (sever v) =
+    if root_of s.world v == v then s.fresh else lent_beside s (cut.sever s.world v) v
+stay_fresh s (reshape v ds) = lent_beside s (cut.reshape s.world v ds) v
 stay_fresh s (release v) = s.fresh
 
 -- an array can be lent where its base can: a root where nothing waits in its family, and a view
@@ -124,7 +125,7 @@ is_lent stay s v =
 
 -- the arrays that can be lent in a state that a call left, oldest first
 abbrev pub lent_in : (stay : List ℕ) → State → List ℕ
-lent_in stay s = filter (is_lent stay s) (numbers_in s.world)
+lent_in stay s = filter (is_lent stay s) (array_numbers s.world)
 
 -- the state after a call
 abbrev pub state_then : State → Call → State
@@ -455,6 +456,24 @@ clump_parts_by_cut =
     ∷ shows 1 (whole_numbers (0 ∷ 2 ∷ 4 ∷ 9 ∷ 3 ∷ 5 ∷ []))
     ∷ shows 0 to_five ∷ []
 
+-- b = x index 4 1 2, s = x index 0 5, c = x index 1 3, which are read; b is cut, and c gets two
+-- elements more: s can be lent all along
+abbrev pub siblings_stay : List Line
+siblings_stay =
+    after (make (6 ∷ []) to_five) (0 ∷ []) [] 5
+    ∷ after (view 0 (index_at (4 ∷ 1 ∷ 2 ∷ []))) (0 ∷ []) [] 0
+    ∷ after (view 0 (index_at (0 ∷ 5 ∷ []))) (0 ∷ []) [] 0
+    ∷ after (view 0 (index_at (1 ∷ 3 ∷ []))) (0 ∷ []) [] 0
+    ∷ after (ready 1) (0 ∷ 1 ∷ []) [] 3
+    ∷ after (ready 2) (0 ∷ 1 ∷ 2 ∷ []) [] 2
+    ∷ after (ready 3) (0 ∷ 1 ∷ 2 ∷ 3 ∷ []) [] 2
+    ∷ after (sever 1) (0 ∷ 1 ∷ 2 ∷ 3 ∷ []) [] 3
+    ∷ after (ready 2) (0 ∷ 1 ∷ 2 ∷ 3 ∷ []) [] 0
+    ∷ after (reshape 3 (4 ∷ [])) (0 ∷ 1 ∷ 2 ∷ 3 ∷ []) [] 4
+    ∷ after (ready 2) (0 ∷ 1 ∷ 2 ∷ 3 ∷ []) [] 0
+    ∷ shows 2 (whole_numbers (0 ∷ 5 ∷ []))
+    ∷ shows 3 (whole_numbers (1 ∷ 3 ∷ 0 ∷ 0 ∷ [])) ∷ []
+
 abbrev pub scripts : List (List Line)
 scripts =
     sibling_is_read ∷ siblings_are_written ∷ slice_of_choice_is_written ∷ root_is_written
@@ -462,7 +481,7 @@ scripts =
     ∷ choice_of_choice_is_written ∷ two_families ∷ clump_is_written ∷ views_come_late
     ∷ waiting_is_cut ∷ waiting_is_reshaped ∷ waiting_goes ∷ slices_overlap ∷ indexes_overlap
     ∷ slice_of_slice_is_lent ∷ choice_is_written_often ∷ repeat_comes_by_cut ∷ clump_parts_by_cut
-    ∷ []
+    ∷ siblings_stay ∷ []
 
 -- each line of each script is as the clauses say
 abbrev pub ScriptsAreWorked : Type 0

@@ -14,10 +14,11 @@ ghost use Rattle.pdl_world.specs.Parts.{assign_part};
 ghost use Rattle.pdl_world.specs.World.{assign, dims_in, elements, has_repeats, look, places_in, root, ty_in, view};
 ghost use Rattle.pdl_nodes.specs.Sized.{IsLayout};
 ghost use Rattle.pdl_engine.specs.Foresights.{Foretells, IsForeseen};
+ghost use Rattle.pdl_registry.specs.Numbered.{first_from};
 ghost use Rattle.pdl_nodes.specs.declared.relaid.RelayFault.TheVariants.{Breaks};
 ghost use Rattle.pdl_nodes.specs.Faults.{Names};
 ghost use Rattle.pdl_engine.specs.Held.{AllHaveHolds, AreApart, ChangesFamily, FamilyIsSettled, IsReleased, count_at, holders, one_more_at, written_back};
-ghost use Rattle.pdl_engine.specs.Looks.{first_from, numbers_in, past, trans_in};
+ghost use Rattle.pdl_engine.specs.Looks.{array_numbers, past, trans_in};
 ghost use Rattle.pdl_engine.specs.Reading.{read_steps};
 ghost use Rattle.pdl_engine.specs.Resting.{IsResting};
 ghost use Rattle.pdl_engine.specs.State.{IsLazy, IsLentAs, Joins, OthersWait, PathIsFresh, SameArrays, StayFresh, TargetIsFresh, TargetWaits, base, is_fresh, no_arrays, ready_steps, shown_in, waiting};
@@ -520,7 +521,7 @@ impl Engine {
     /// The oldest array that is newer than this one, or the oldest of all.
     pub fn next_live(&self, after: Option<ArrayId>) -> Option<ArrayId>
         requires { IfSome after (IsLive self.now.world) }
-        ensures { result ≡ first_from (numbers_in self.now.world) (past after) }
+        ensures { result ≡ first_from (array_numbers self.now.world) (past after) }
     {
         row_laws();
         self.table.from(past(after))
@@ -576,9 +577,10 @@ impl Engine {
     }
 
     /// Cuts an array from its parent: it becomes a root with its elements, which can be lent, and
-    /// its own views stay with it. What waits in the family is written back first. On a root it
-    /// does nothing, and takes no memory. Out of memory, it leaves the world, and what could be
-    /// lent. It takes at most the steps of `ready`, and one for each element.
+    /// its own views stay with it. Whatever has another root then can be lent if it could be. What
+    /// waits in the family is written back first. On a root it does nothing, and takes no memory.
+    /// Out of memory, it leaves the world, and what could be lent. It takes at most the steps of
+    /// `ready`, and one for each element.
     pub fn sever<L: Ledger>(&mut self, id: ArrayId, steps: &mut Steps<L>) -> Result<(), NoMemory>
         requires { IsLive self.old.world id }
         ensures root { root_of self.old.world id ≡ id → self.new ≡ self.old }
@@ -608,10 +610,11 @@ impl Engine {
 
     /// Gives an array other dimensions: it becomes a root of its first elements, in order, with
     /// zeros after them where there are fewer, and can be lent. Each view that reaches it is
-    /// derived anew by its transformation; of these those can be lent whose base the array is.
-    /// `Breaks` comes exactly where the formula of one of them refuses, and changes nothing. What
-    /// waits in the family is written back first. Out of memory, it leaves the world, and what
-    /// could be lent. It takes at most the steps of `ready`, and one for each new element.
+    /// derived anew by its transformation; of these those can be lent whose base the array is, and
+    /// of all others those that could be. `Breaks` comes exactly where the formula of one of these
+    /// views refuses, and changes nothing. What waits in the family is written back first. Out of
+    /// memory, it leaves the world, and what could be lent. It takes at most the steps of `ready`,
+    /// and one for each new element.
     pub fn reshape<L: Ledger>(
         &mut self,
         id: ArrayId,

@@ -1,6 +1,6 @@
 -- What a formula goes by, by induction on its tree.
 use Rattle.std.proofs.Common.{◌≡◌, ℕ, suc, List, [], ◌∷◌, ◌++◌, All, Result, Ok, Err, arith, refl, ap, ap₂, sym, subst, ◌∙◌}
-use Rattle.std.specs.Prelude.{false, IfErr}
+use Rattle.std.specs.Prelude.{false}
 use Rattle.std.proofs.lemmas.List.{get_or_append_left, length-append}
 use Rattle.std.proofs.lemmas.List.Elements.{All-cons, All-nil}
 use Rattle.pdl_elem.specs.declared.Ty.{Ty}
@@ -9,12 +9,8 @@ use Rattle.pdl_elem.specs.declared.BinaryOp.{BinaryOp}
 use Rattle.pdl_elem.specs.Operators.{divides}
 use Rattle.pdl_elem.specs.Types.{InRange, unary_result}
 use Rattle.pdl_buf.specs.declared.made.Made.{Made}
-use Rattle.pdl_ops.specs.declared.OpFault.{OpFault}
-use Rattle.pdl_ops.specs.declared.OpFault.TheVariants.{Mismatch, TooLarge, DivideByZero, NoMemory}
-use Rattle.pdl_ops.specs.Answers.{Answers}
 use Rattle.pdl_ops.specs.Elementwise.{OpRefusal, converted, elementwise, unary_each}
 use Rattle.pdl_ops.specs.Laws.{ArrayLaws, FormLaws, IsArray, IsUndivided, form, form_of}
-use Rattle.pdl_flow.specs.Answers.{NamesNoDivisor}
 use Rattle.pdl_flow.specs.Formula.{FormulaTree, number, array, unary, binary, convert, IsFormula, arrays_in}
 use Rattle.pdl_flow.specs.Meaning.{and_then, meaning}
 
@@ -130,13 +126,3 @@ if_array laws g (binary op f e) is all = joined_array laws op (meaning g f) (mea
 
 pub arrays : ArrayLaws → (g : ℕ → Made) (f : FormulaTree) (m : Made) → IsFormula f → All (λ k. IsArray (g k)) (arrays_in f) → meaning g f ≡ Ok m → IsArray m
 arrays laws g f m is all e = subst IfArray e (if_array laws g f is all)
-
--- ---- answers
-
--- a fault that answers what isn't refused for a divisor 0 names none
-pub names_no_divisor : (r : Result Made OpRefusal) (result : Result Made OpFault) → IsUndivided r → Answers (λ made. made) r result → IfErr result NamesNoDivisor
-names_no_divisor r (Ok m) h answers = tt
-names_no_divisor r (Err Mismatch) h answers = tt
-names_no_divisor r (Err TooLarge) h answers = tt
-names_no_divisor r (Err NoMemory) h answers = tt
-names_no_divisor r (Err (DivideByZero place)) h answers = absurd (subst IsUndivided answers h)

@@ -5,3 +5,4 @@ pub mod Steps
 pub mod Parts
 pub mod Laws
 pub mod Answers
+pub mod Coding

@@ -1,7 +1,14 @@
 //! Formulas, and what stands in the place of their arrays.
+ghost use Rattle.std.specs.Prelude.{◌≡◌, ◌+◌, IfOk, OnOk, OnErr};
+ghost use Rattle.pdl_numbers.specs.Typed.{count_moved};
+ghost use Rattle.pdl_buf.specs.Made.{IsMade, array_of};
 
-use pdl_buf::Made;
+use crate::kept::Kept;
+use pdl_buf::{Steps, Strided};
 use pdl_elem::{BinaryOp, Ty, UnaryOp};
+use pdl_shape::Dims;
+use std::alloc::{AllocError, Global};
+use std::sync::ledger::Ledger;
 
 /// A formula over arrays, which are known by their numbers.
 #[derive(Drop)]
@@ -16,9 +23,54 @@ pub enum Formula {
     Convert(Ty, Box<Formula>),
 }
 
-/// The value of the array of this number.
+/// The value of the array of this number, in a buffer that operators are lent.
 #[derive(Drop)]
 pub struct Input {
-    pub array: u64,
-    pub value: Made,
+    pub(crate) array: u64,
+    pub(crate) value: Kept,
+}
+
+impl Input {
+    /// The input of an array that has these elements. It takes a step for each of them that isn't
+    /// 0, and none where it is out of memory.
+    pub fn new<L: Ledger>(
+        alloc: Global,
+        array: u64,
+        ty: Ty,
+        dims: &Dims,
+        elems: &[i64],
+        steps: &mut Steps<L>,
+    ) -> Result<Input, AllocError>
+        requires { IsMade ty dims.now elems.now }
+        ensures input { IfOk result (λ i. i ≡ record {
+          array = array;
+          value = record { ty = ty; dims = dims.now; elems = elems.now };
+        }) }
+        ensures counted { OnOk result (steps.new ≡ steps.old + count_moved elems.now) }
+        ensures err { OnErr result (steps.new ≡ steps.old) }
+    {
+        Ok(Input {
+            array,
+            value: Kept::of_list(alloc, ty, dims, elems, steps)?,
+        })
+    }
+
+    /// The input of an array that shows this window, from which it is copied. It takes the same
+    /// steps.
+    pub fn shown<L: Ledger>(
+        alloc: Global,
+        array: u64,
+        window: &Strided<'_>,
+        steps: &mut Steps<L>,
+    ) -> Result<Input, AllocError>
+        ensures input { IfOk result
+            (λ i. i ≡ record { array = array; value = array_of window.now }) }
+        ensures counted { OnOk result (steps.new ≡ steps.old + count_moved window.now.elems) }
+        ensures err { OnErr result (steps.new ≡ steps.old) }
+    {
+        Ok(Input {
+            array,
+            value: Kept::copied(alloc, window, steps)?,
+        })
+    }
 }

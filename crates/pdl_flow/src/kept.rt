@@ -1,13 +1,16 @@
 //! An array in a buffer of its own, which is lent as a window.
-ghost use Rattle.std.specs.Prelude.{◌≡◌, IfOk};
-ghost use Rattle.pdl_buf.specs.Made.{array_of};
+ghost use Rattle.std.specs.Prelude.{◌≡◌, ◌+◌, IfOk, OnOk, OnErr};
+ghost use Rattle.pdl_numbers.specs.Typed.{count_moved};
+ghost use Rattle.pdl_buf.specs.Made.{IsMade, array_of};
 ghost use Rattle.pdl_ops.specs.Laws.{IsArray};
-ghost use Rattle.pdl_flow.specs.Parts.{IsKept};
 
-use pdl_buf::{Buf, Made, Steps, Strided, buf_of_elements, strided};
-use pdl_ops::OpFault;
-use pdl_shape::{Dims, whole_triple};
-use std::alloc::Global;
+use pdl_buf::{
+    Buf, Made, Steps, Strided, buf_of, buf_of_elements, strided, strided_is_in_range, strided_type,
+};
+use pdl_elem::{Ty, wrapping_laws};
+use pdl_ops::convert;
+use pdl_shape::{Dims, copy_dims, whole_triple};
+use std::alloc::{AllocError, Global};
 use std::marker::Model;
 use std::sync::ledger::Ledger;
 
@@ -31,27 +34,72 @@ impl Model for Kept {
 }
 
 impl Kept {
-    /// What was made, in a buffer, or the fault that there was instead. Each element that isn't 0
-    /// is a step.
-    pub fn new<L: Ledger>(
+    /// What was made, in a buffer. Each element that isn't 0 is a step.
+    pub(crate) fn new<L: Ledger>(
         alloc: Global,
-        made: Result<Made, OpFault>,
+        made: Made,
         steps: &mut Steps<L>,
-    ) -> Result<Kept, OpFault>
-        requires { IfOk made IsArray }
-        ensures { IsKept made result steps.old steps.new }
+    ) -> Result<Kept, AllocError>
+        requires { IsArray made }
+        ensures value { IfOk result (λ kept. kept ≡ made) }
+        ensures counted { OnOk result (steps.new ≡ steps.old + count_moved made.elems) }
+        ensures err { OnErr result (steps.new ≡ steps.old) }
     {
-        let made = made?;
         Ok(Kept {
             buf: buf_of_elements(alloc, made.ty, made.elems, steps)?,
             dims: made.dims,
         })
     }
 
+    /// An array of a type, dimensions and elements, in a buffer. Each element that isn't 0 is a
+    /// step.
+    pub(crate) fn of_list<L: Ledger>(
+        alloc: Global,
+        ty: Ty,
+        dims: &Dims,
+        elems: &[i64],
+        steps: &mut Steps<L>,
+    ) -> Result<Kept, AllocError>
+        requires { IsMade ty dims.now elems.now }
+        ensures value { IfOk result
+            (λ kept. kept ≡ record { ty = ty; dims = dims.now; elems = elems.now }) }
+        ensures counted { OnOk result (steps.new ≡ steps.old + count_moved elems.now) }
+        ensures err { OnErr result (steps.new ≡ steps.old) }
+    {
+        Ok(Kept {
+            buf: buf_of(alloc, ty, elems, steps)?,
+            dims: copy_dims(dims),
+        })
+    }
+
+    /// What a window shows, in a buffer. Each element that isn't 0 is a step.
+    pub(crate) fn copied<L: Ledger>(
+        alloc: Global,
+        window: &Strided<'_>,
+        steps: &mut Steps<L>,
+    ) -> Result<Kept, AllocError>
+        ensures value { IfOk result (λ kept. kept ≡ array_of window.now) }
+        ensures counted { OnOk result (steps.new ≡ steps.old + count_moved window.now.elems) }
+        ensures err { OnErr result (steps.new ≡ steps.old) }
+    {
+        let made = copy_of(alloc, window)?;
+        Kept::new(alloc, made, steps)
+    }
+
     /// The whole array as a window.
-    pub fn whole(&self, alloc: Global) -> Strided<'_>
+    pub(crate) fn whole(&self, alloc: Global) -> Strided<'_>
         ensures { array_of result ≡ self.now }
     {
         strided(&self.buf, &whole_triple(alloc, &self.dims))
     }
+}
+
+/// What a window shows, packed at its type.
+pub(crate) fn copy_of(alloc: Global, window: &Strided<'_>) -> Result<Made, AllocError>
+    ensures value { IfOk result (λ made. made ≡ array_of window.now) }
+    ensures made { IfOk result IsArray }
+{
+    wrapping_laws();
+    strided_is_in_range(window);
+    convert(alloc, strided_type(window), window)
 }

@@ -6,6 +6,7 @@ mod evaluation;
 mod formula;
 mod kept;
 mod laws;
+mod operand;
 
 pub use evaluation::evaluate;
 pub use formula::{Formula, Input};

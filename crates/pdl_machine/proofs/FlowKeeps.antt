@@ -259,9 +259,9 @@ abbrev AreBelow : ℕ → Flows → Type 0
 AreBelow n [] = Unit {0}
 AreBelow n (f ∷ flows) = (f.root < n) × AreBelow n flows
 
-flows_with : (a : Arrays) (flows : Flows) (f : Flow) → AreFlows a flows → AreBelow f.root flows → IsFlow a f → AreFlows a (flows ++ f ∷ [])
-flows_with a [] f h below new = (new, tt, tt)
-flows_with a (x ∷ flows) f h below new = (h.0, above_with x.root flows f h.1 below.0, flows_with a flows f h.2 below.1 new)
+more_flows : (a : Arrays) (flows : Flows) (f : Flow) → AreFlows a flows → AreBelow f.root flows → IsFlow a f → AreFlows a (flows ++ f ∷ [])
+more_flows a [] f h below new = (new, tt, tt)
+more_flows a (x ∷ flows) f h below new = (h.0, above_with x.root flows f h.1 below.0, more_flows a flows f h.2 below.1 new)
 
 roots_below : (a : Arrays) (n : ℕ) → ((r : ℕ) → IsLive a.world r → r < n) → (flows : Flows) → AreFlows a flows → AreBelow n flows
 roots_below a n below [] h = tt
@@ -300,7 +300,7 @@ flowing_flows laws s whole x e is made v is_v fine = by_formula (formula_of s.na
 
     made_flows : (f : formula.FormulaTree) → formula_of s.names e ≡ Ok f → formula.IsFormula f → AreIn s.arrays.world (formula.arrays_in f) → IsSound b.world → AreFlows b (s.flows ++ record { root = n; formula = f } ∷ [])
     made_flows f is_f well there sound =
-        flows_with b s.flows (record { root = n; formula = f }) (grown_flows laws.worlds s.arrays b grown (orderly_sound b.world sound) s.flows whole.flows) (roots_below s.arrays n low s.flows whole.flows)
+        more_flows b s.flows (record { root = n; formula = f }) (grown_flows laws.worlds s.arrays b grown (orderly_sound b.world sound) s.flows whole.flows) (roots_below s.arrays n low s.flows whole.flows)
         (record {
           seen = look_of_root n m.ty m.dims;
           is_root = record { look_is = laws.new_whole v.0.world n m.ty m.dims m.elems; path_is = laws.new_path v.0.world n m.ty m.dims m.elems };

@@ -11,7 +11,7 @@ use Rattle.pdl_world.specs.Paths.{path}
 use Rattle.pdl_world.specs.Swept.{is_listed, parents, kept_onto, sweep}
 use Rattle.pdl_world.specs.World.{World, ArrayDef, root, view}
 use Rattle.pdl_machine.specs.Arrays.{Arrays, array_in}
-use Rattle.pdl_machine.specs.Flows.{Flow, Flows, is_flow, all_read, without_flow, formula_by, flow_by, is_reached, Needs, with_flow, needs_of}
+use Rattle.pdl_machine.specs.Flows.{Flow, Flows, is_flow, all_read, without_flow, formula_by, flow_by, is_reached, Needs, needs_with, needs_of}
 use Rattle.pdl_machine.specs.Following.{given, follow, followed}
 use Rattle.pdl_machine.proofs.Renamed.{IsApart, same_test, Renames, AreAlike, holds_renamed, path_renamed, assign_renamed, array_alike}
 
@@ -116,12 +116,12 @@ reached_by g apart {all} {w} {u} r (h ∷ hs) v =
 abbrev pub needs_by : (ℕ → ℕ) → Needs → Needs
 needs_by g n = record { flows = map (flow_by g) n.flows; arrays = map g n.arrays }
 
-with_flow_by : (g : ℕ → ℕ) (stays : Bool) (f : Flow) (n : Needs) → with_flow stays (flow_by g f) (needs_by g n) ≡ needs_by g (with_flow stays f n)
-with_flow_by g true f n = ap (λ (ks : List ℕ). needing ks) (ap (λ (ks : List ℕ). ks ++ map g n.arrays) (arrays_by g f.formula) ∙ sym (map-append g (arrays_in f.formula) n.arrays))
+needs_with_by : (g : ℕ → ℕ) (stays : Bool) (f : Flow) (n : Needs) → needs_with stays (flow_by g f) (needs_by g n) ≡ needs_by g (needs_with stays f n)
+needs_with_by g true f n = ap (λ (ks : List ℕ). needing ks) (ap (λ (ks : List ℕ). ks ++ map g n.arrays) (arrays_by g f.formula) ∙ sym (map-append g (arrays_in f.formula) n.arrays))
   where
     needing : List ℕ → Needs
     needing ks = record { flows = flow_by g f ∷ map (flow_by g) n.flows; arrays = ks }
-with_flow_by g false f n = refl
+needs_with_by g false f n = refl
 
 -- the same flows stay, and the same arrays are needed
 pub needs_renamed : (g : ℕ → ℕ) → IsApart g → {all : Bool} {w u : World} → Renames g all w u → (flows : Flows) (hs : List ℕ)
@@ -129,9 +129,9 @@ pub needs_renamed : (g : ℕ → ℕ) → IsApart g → {all : Bool} {w u : Worl
 needs_renamed g apart r [] hs = refl
 needs_renamed g apart {all} {w} {u} r (f ∷ flows) hs =
     let n : Needs = needs_of w flows hs in
-    ap (λ (m : Needs). with_flow (is_reached u m.arrays (g f.root)) (flow_by g f) m) (needs_renamed g apart r flows hs)
-    ∙ ap (λ (stays : Bool). with_flow stays (flow_by g f) (needs_by g n)) (reached_by g apart r n.arrays f.root)
-    ∙ with_flow_by g (is_reached w n.arrays f.root) f n
+    ap (λ (m : Needs). needs_with (is_reached u m.arrays (g f.root)) (flow_by g f) m) (needs_renamed g apart r flows hs)
+    ∙ ap (λ (stays : Bool). needs_with stays (flow_by g f) (needs_by g n)) (reached_by g apart r n.arrays f.root)
+    ∙ needs_with_by g (is_reached w n.arrays f.root) f n
 
 given_alike : {all : Bool} (g : ℕ → ℕ) (a b : Arrays) → AreAlike all g a b → (r : ℕ) (x : Value) → AreAlike all g (given a r x) (given b (g r) x)
 given_alike g a b h r (Ok m) = record { apart = h.apart; world = assign_renamed g h.apart h.world r m.elems; next = h.next; on = h.on }
@@ -166,7 +166,7 @@ first_listed v vs = let self : (v == v) ≡ true = eq-eqb v v refl in rw self re
 pub later_listed : (v u : ℕ) (vs : List ℕ) → is_listed vs u ≡ true → is_listed (v ∷ vs) u ≡ true
 later_listed v u vs t = by_test (v == u) (λ same. rw same refl) (λ other. rw other t)
 
-more_needed : (stays : Bool) (f : Flow) (n : Needs) (v : ℕ) → is_listed n.arrays v ≡ true → is_listed (with_flow stays f n).arrays v ≡ true
+more_needed : (stays : Bool) (f : Flow) (n : Needs) (v : ℕ) → is_listed n.arrays v ≡ true → is_listed (needs_with stays f n).arrays v ≡ true
 more_needed true f n v h = listed_back (arrays_in f.formula) n.arrays v h
 more_needed false f n v h = h
 
@@ -211,8 +211,8 @@ needs_kept w many [] hs all_held = refl
 needs_kept w many (f ∷ flows) hs all_held =
     let n : Needs = needs_of w flows hs in
     let below : (v : ℕ) → is_listed n.arrays v ≡ true → is_listed many v ≡ true = λ v t. all_held v (more_needed (is_reached w n.arrays f.root) f n v t) in
-    ap (λ (m : Needs). with_flow (is_reached (sweep w many) m.arrays f.root) f m) (needs_kept w many flows hs below)
-    ∙ ap (λ (stays : Bool). with_flow stays f n) (reached_kept w many n.arrays f.root below)
+    ap (λ (m : Needs). needs_with (is_reached (sweep w many) m.arrays f.root) f m) (needs_kept w many flows hs below)
+    ∙ ap (λ (stays : Bool). needs_with stays f n) (reached_kept w many n.arrays f.root below)
 
 -- the flows that stay need no more than they did
 pub needs_again : (w : World) (flows : Flows) (hs : List ℕ) → needs_of w (needs_of w flows hs).flows hs ≡ needs_of w flows hs
@@ -222,8 +222,8 @@ needs_again w (f ∷ flows) hs = by_stays (needs_again w flows hs) (is_reached w
     n : Needs
     n = needs_of w flows hs
 
-    by_stays : needs_of w n.flows hs ≡ n → (stays : Bool) → is_reached w n.arrays f.root ≡ stays → needs_of w (with_flow stays f n).flows hs ≡ with_flow stays f n
+    by_stays : needs_of w n.flows hs ≡ n → (stays : Bool) → is_reached w n.arrays f.root ≡ stays → needs_of w (needs_with stays f n).flows hs ≡ needs_with stays f n
     by_stays rest false is = rest
     by_stays rest true is =
-        ap (λ (m : Needs). with_flow (is_reached w m.arrays f.root) f m) rest
-        ∙ ap (λ (b : Bool). with_flow b f n) is
+        ap (λ (m : Needs). needs_with (is_reached w m.arrays f.root) f m) rest
+        ∙ ap (λ (b : Bool). needs_with b f n) is

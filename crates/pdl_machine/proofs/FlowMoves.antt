@@ -19,6 +19,7 @@ use Rattle.pdl_world.specs.SweepLaws.{IsSeenAsBefore}
 use Rattle.pdl_machine.specs.Arrays.{Arrays, array_in}
 use Rattle.pdl_machine.specs.Flows.{Flow, Flows, is_flow, all_read, without_flow, is_reached}
 use Rattle.pdl_machine.specs.Following.{AreOlder, IsFlow, RootsAbove, AreFlows}
+use Rattle.pdl_machine.specs.FlowLaws.{FlowsStay}
 use Rattle.pdl_machine.specs.Laws.{AreGrown}
 use Rattle.pdl_machine.proofs.FlowLemmas.{AreSame, meaning_same, first_listed, listed_front, listed_back}
 use Rattle.pdl_machine.proofs.Numbering.{in_world, IsOrderly}
@@ -105,6 +106,9 @@ all_moved a u (f ∷ flows) h reads roots =
       roots f.root here (flow_live a f h.0) h.0.is_root.path_is,
       all_moved a u flows h.2 (λ k t. reads k (listed_back ks (all_read flows) k t)) (λ r t. roots r (by_test (f.root == r) (λ same. rw same refl) (λ other. rw other t))),
     )
+
+pub flows_stay : FlowsStay
+flows_stay a b flows h reads roots = flows_moved a b flows h (all_moved a b.world flows h reads roots)
 
 above_without : (n : ℕ) (flows : Flows) (v : ℕ) → RootsAbove n flows → RootsAbove n (without_flow flows v)
 above_without n [] v h = tt

@@ -14,11 +14,12 @@ use Rattle.pdl_world.specs.Sound.{IsSound, IsLive}
 use Rattle.pdl_world.specs.Swept.{is_listed, Has, sweep, IsReached, held_itself, parent_of}
 use Rattle.pdl_world.specs.SweepLaws.{IsSeenAsBefore, ReachedAreSeenAsBefore}
 use Rattle.pdl_machine.specs.Arrays.{Arrays, array_in}
-use Rattle.pdl_machine.specs.Flows.{Flow, Flows, formula_by, flow_by, is_reached, Needs, with_flow, needs_of}
+use Rattle.pdl_machine.specs.Flows.{Flow, Flows, formula_by, flow_by, is_reached, Needs, needs_with, needs_of}
 use Rattle.pdl_machine.specs.Following.{AreOlder, IsFlow, RootsAbove, AreFlows}
 use Rattle.pdl_machine.specs.State.{held, needs, kept}
 use Rattle.pdl_machine.specs.Tidy.{settled, tidy}
-use Rattle.pdl_machine.specs.FlowLaws.{TidyingKeepsFlows}
+use Rattle.pdl_machine.specs.Laws.{PathsReach}
+use Rattle.pdl_machine.specs.FlowLaws.{LettingGoKeepsFlows, TidyingKeepsFlows}
 use Rattle.pdl_machine.proofs.Renamed.{IsApart, Renames, AreAlike, StateAlike, with_root, look_renamed, path_renamed, array_alike}
 use Rattle.pdl_machine.proofs.FlowLemmas.{meaning_by, meaning_same, all_same, arrays_by, first_listed, listed_front, listed_back}
 use Rattle.pdl_machine.proofs.Tidying.{renamed}
@@ -55,6 +56,9 @@ reached_is w many (h ∷ hs) v all_held on = by_test (is_listed (path w h) v)
     (λ here. on_path_reached w w many h v (λ i e there. there) (held_itself h (all_held h (first_listed h hs))) here)
     (λ other. let t : is_reached w hs v ≡ true = rw other at on in reached_is w many hs v (λ u k. all_held u (by_test (h == u) (λ same. rw same refl) (λ apart. rw apart k))) t)
 
+pub paths_reach : PathsReach
+paths_reach = λ w hs v on. reached_is w hs hs v (λ u t. t) on
+
 -- ---- in what is kept
 
 reads_kept : ReachedAreSeenAsBefore → (w : World) (many : List ℕ) → IsSound w → (r : ℕ) (ks : List ℕ) → AreOlder w r ks → ((v : ℕ) → is_listed ks v ≡ true → is_listed many v ≡ true) → AreShown w (sweep w many) ks
@@ -70,14 +74,14 @@ above_kept : (n : ℕ) (w : World) (flows : Flows) (hs : List ℕ) → RootsAbov
 above_kept n w [] hs above = tt
 above_kept n w (f ∷ flows) hs above = by_stays (above_kept n w flows hs above.1) (is_reached w (needs_of w flows hs).arrays f.root)
   where
-    by_stays : RootsAbove n (needs_of w flows hs).flows → (stays : Bool) → RootsAbove n (with_flow stays f (needs_of w flows hs)).flows
+    by_stays : RootsAbove n (needs_of w flows hs).flows → (stays : Bool) → RootsAbove n (needs_with stays f (needs_of w flows hs)).flows
     by_stays rest true = (above.0, rest)
     by_stays rest false = rest
 
-kept_flows : ReachedAreSeenAsBefore → (a : Arrays) (many : List ℕ) → IsSound a.world → (flows : Flows) (hs : List ℕ) → AreFlows a flows
-    → ((v : ℕ) → is_listed (needs_of a.world flows hs).arrays v ≡ true → is_listed many v ≡ true) → AreFlows (record a { world = sweep a.world many }) (needs_of a.world flows hs).flows
-kept_flows seen a many sound [] hs h all_held = tt
-kept_flows seen a many sound (f ∷ flows) hs h all_held = by_stays (kept_flows seen a many sound flows hs h.2) (is_reached w n.arrays f.root) refl all_held
+pub letting_go_keeps_flows : ReachedAreSeenAsBefore → LettingGoKeepsFlows
+letting_go_keeps_flows seen a b [] hs many sound h is all_held = tt
+letting_go_keeps_flows seen a b (f ∷ flows) hs many sound h is all_held =
+    by_stays (letting_go_keeps_flows seen a b flows hs many sound h.2 is) (is_reached w n.arrays f.root) refl all_held
   where
     w : World
     w = a.world
@@ -85,17 +89,17 @@ kept_flows seen a many sound (f ∷ flows) hs h all_held = by_stays (kept_flows 
     n : Needs
     n = needs_of w flows hs
 
-    b : Arrays
-    b = record a { world = sweep w many }
-
     by_stays : (((v : ℕ) → is_listed n.arrays v ≡ true → is_listed many v ≡ true) → AreFlows b n.flows)
-        → (stays : Bool) → is_reached w n.arrays f.root ≡ stays → ((v : ℕ) → is_listed (with_flow stays f n).arrays v ≡ true → is_listed many v ≡ true) → AreFlows b (with_flow stays f n).flows
-    by_stays rest false is all_held = rest all_held
-    by_stays rest true is all_held =
-        let below : (v : ℕ) → is_listed n.arrays v ≡ true → is_listed many v ≡ true = λ v t. all_held v (listed_back (arrays_in f.formula) n.arrays v t) in (
+        → (stays : Bool) → is_reached w n.arrays f.root ≡ stays → ((v : ℕ) → is_listed (needs_with stays f n).arrays v ≡ true → is_listed many v ≡ true) → AreFlows b (needs_with stays f n).flows
+    by_stays rest false on inside = rest inside
+    by_stays rest true on inside =
+        let below : (v : ℕ) → is_listed n.arrays v ≡ true → is_listed many v ≡ true = λ v t. inside v (listed_back (arrays_in f.formula) n.arrays v t) in
+        let shown : AreShown w (sweep w many) (arrays_in f.formula) =
+        reads_kept seen w many sound f.root (arrays_in f.formula) h.0.older (λ v t. inside v (listed_front (arrays_in f.formula) n.arrays v t)) in
+        let own : IsSeenAsBefore w (sweep w many) f.root = seen w many f.root sound (reached_is w many n.arrays f.root below on) in (
           flow_moved a b f h.0
-              (reads_kept seen w many sound f.root (arrays_in f.formula) h.0.older (λ v t. all_held v (listed_front (arrays_in f.formula) n.arrays v t)))
-              (seen w many f.root sound (reached_is w many n.arrays f.root below is)),
+              (subst (λ (u : World). AreShown w u (arrays_in f.formula)) (sym is) shown)
+              (subst (λ (u : World). IsSeenAsBefore w u f.root) (sym is) own),
           above_kept f.root w flows hs h.1,
           rest below,
         )
@@ -200,7 +204,7 @@ tidying_keeps_flows seen s whole =
     let g = former_numbers s in
     let h : StateAlike false g (tidy s) (settled s) = tidied_alike s order in
     let b : Arrays = record s.arrays { world = kept s } in
-    let flows : AreFlows b (needs s).flows = kept_flows seen s.arrays (needs s).arrays whole.sound s.flows (held s) whole.flows (λ v t. t) in
+    let flows : AreFlows b (needs s).flows = letting_go_keeps_flows seen s.arrays b s.flows (held s) (needs s).arrays whole.sound whole.flows refl (λ v t. t) in
     let alike : AreAlike true g (tidy s).arrays b = record {
       apart = h.arrays.apart;
       world = subst (λ (w : World). Renames g true (tidy s).arrays.world w) (sym (swept_is s order)) (all_renamed g (tidy s).arrays.world);

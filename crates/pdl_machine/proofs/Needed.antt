@@ -10,7 +10,7 @@ use Rattle.pdl_world.specs.Sound.{NumbersBelow}
 use Rattle.pdl_world.specs.Swept.{is_listed, parents, Has, IsReached, held_itself, parent_of}
 use Rattle.pdl_world.specs.SweepLaws.{KeptWereReached, ReachedAreKept}
 use Rattle.pdl_machine.specs.Arrays.{Arrays}
-use Rattle.pdl_machine.specs.Flows.{Flow, Flows, is_reached, Needs, with_flow, needs_of, IsNeeded, needed_itself, needed_parent, needed_read}
+use Rattle.pdl_machine.specs.Flows.{Flow, Flows, is_reached, Needs, needs_with, needs_of, IsNeeded, needed_itself, needed_parent, needed_read}
 use Rattle.pdl_machine.specs.Following.{AreOlder, IsFlow, RootsAbove, AreFlows}
 use Rattle.pdl_machine.specs.State.{held, needs}
 use Rattle.pdl_machine.specs.Laws.{KeptAreNeeded, NeededFlowsStay}
@@ -63,7 +63,7 @@ walk_needed w (f ∷ flows) hs k on = by_stays (walk_needed w flows hs) (is_reac
     n : Needs
     n = needs_of w flows hs
 
-    by_stays : AreNeeded w flows hs n.arrays → (stays : Bool) → is_reached w n.arrays f.root ≡ stays → is_listed (with_flow stays f n).arrays k ≡ true → IsNeeded w (f ∷ flows) hs k
+    by_stays : AreNeeded w flows hs n.arrays → (stays : Bool) → is_reached w n.arrays f.root ≡ stays → is_listed (needs_with stays f n).arrays k ≡ true → IsNeeded w (f ∷ flows) hs k
     by_stays rest false is on = more_flows w f flows hs k (rest k on)
     by_stays rest true is on = elim (listed_parts (arrays_in f.formula) n.arrays k on) [
       | inl read ↦ needed_read f k (first_among f flows) (more_flows w f flows hs f.root (root_needed w flows hs n.arrays rest f.root is)) read
@@ -82,7 +82,7 @@ staying_needed w (f ∷ flows) hs g there = by_stays (staying_needed w flows hs 
     later h = (later_among f g flows h.0, more_flows w f flows hs g.root h.1)
 
     by_stays : (Contains n.flows g → Contains flows g × IsNeeded w flows hs g.root)
-        → (stays : Bool) → is_reached w n.arrays f.root ≡ stays → Contains (with_flow stays f n).flows g → Contains (f ∷ flows) g × IsNeeded w (f ∷ flows) hs g.root
+        → (stays : Bool) → is_reached w n.arrays f.root ≡ stays → Contains (needs_with stays f n).flows g → Contains (f ∷ flows) g × IsNeeded w (f ∷ flows) hs g.root
     by_stays rest false is there = later (rest there)
     by_stays rest true is there = elim (among f g n.flows there) [
       | inl same ↦ subst (λ x. Contains (f ∷ flows) x × IsNeeded w (f ∷ flows) hs x.root) same (
@@ -215,7 +215,7 @@ reached_stays : (a : Arrays) → IsOrderly a.world → (flows : Flows) (hs : Lis
     → IsReached a.world (needs_of a.world flows hs).arrays f.root → StaysIn (needs_of a.world flows hs) f
 reached_stays a order [] hs are f there r = absurd (let lt = there.1 in omega (arith, lt))
 reached_stays a order (g ∷ flows) hs are f there r = elim (among g f flows there) [
-  | inl same ↦ (let r' : IsReached w (with_flow (is_reached w n.arrays g.root) g n).arrays g.root = subst (λ x. IsReached w (needs_of w (g ∷ flows) hs).arrays x.root) (sym same) r in
+  | inl same ↦ (let r' : IsReached w (needs_with (is_reached w n.arrays g.root) g n).arrays g.root = subst (λ x. IsReached w (needs_of w (g ∷ flows) hs).arrays x.root) (sym same) r in
       subst (StaysIn (needs_of w (g ∷ flows) hs)) same (itself (is_reached w n.arrays g.root) refl r'))
   | inr later ↦ newer later (reached_stays a order flows hs are.2 f later) (is_reached w n.arrays g.root) r
 ]
@@ -226,7 +226,7 @@ reached_stays a order (g ∷ flows) hs are f there r = elim (among g f flows the
     n : Needs
     n = needs_of w flows hs
 
-    itself : (stays : Bool) → is_reached w n.arrays g.root ≡ stays → IsReached w (with_flow stays g n).arrays g.root → StaysIn (with_flow stays g n) g
+    itself : (stays : Bool) → is_reached w n.arrays g.root ≡ stays → IsReached w (needs_with stays g n).arrays g.root → StaysIn (needs_with stays g n) g
     itself true is r = (first_among g n.flows, λ k on. listed_front (arrays_in g.formula) n.arrays k on)
     itself false is r = let t : is_reached w n.arrays g.root ≡ true = reached_found w order n.arrays g.root r (root_inside a g are.0) in cc
 
@@ -235,7 +235,7 @@ reached_stays a order (g ∷ flows) hs are f there r = elim (among g f flows the
         let low : k < g.root = older_listed w g.root (arrays_in g.formula) are.0.older k on in
         let high : g.root < f.root = above_among g.root flows are.1 f later in omega (arith, low, high)
 
-    newer : Contains flows f → (IsReached w n.arrays f.root → StaysIn n f) → (stays : Bool) → IsReached w (with_flow stays g n).arrays f.root → StaysIn (with_flow stays g n) f
+    newer : Contains flows f → (IsReached w n.arrays f.root → StaysIn n f) → (stays : Bool) → IsReached w (needs_with stays g n).arrays f.root → StaysIn (needs_with stays g n) f
     newer later rest false r = rest r
     newer later rest true r =
         let h : StaysIn n f = rest (without_older w order (arrays_in g.formula) n.arrays f.root (older later) f.root (omega arith) r) in

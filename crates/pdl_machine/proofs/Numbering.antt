@@ -9,7 +9,7 @@ use Rattle.pdl_world.specs.Swept.{is_listed, parents, kept_onto, sweep}
 use Rattle.pdl_machine.specs.Names.{KernelTexts, Named, Names}
 use Rattle.pdl_flow.specs.Formula.{FormulaTree, number, array, unary, binary, convert, arrays_in}
 use Rattle.pdl_machine.specs.Arrays.{Arrays}
-use Rattle.pdl_machine.specs.Flows.{Flows, all_read, formula_by, flow_by, is_reached, Needs, with_flow, needs_of}
+use Rattle.pdl_machine.specs.Flows.{Flows, all_read, formula_by, flow_by, is_reached, Needs, needs_with, needs_of}
 use Rattle.pdl_machine.specs.Following.{AreOlder, AreFlows}
 use Rattle.pdl_machine.specs.State.{State, held, needs, kept, IsSwept, AreLive, IsWhole}
 use Rattle.pdl_machine.specs.Watches.{Watches, attached}
@@ -367,8 +367,8 @@ staying_in w many (f ∷ flows) hs there all_held =
     n = needs_of w flows hs
 
     by_stays : (((v : ℕ) → is_listed n.arrays v ≡ true → is_listed many v ≡ true) → AreFlowsIn (sweep w many) n.flows)
-        → (stays : Bool) → is_reached w n.arrays f.root ≡ stays → ((v : ℕ) → is_listed (with_flow stays f n).arrays v ≡ true → is_listed many v ≡ true)
-        → AreFlowsIn (sweep w many) (with_flow stays f n).flows
+        → (stays : Bool) → is_reached w n.arrays f.root ≡ stays → ((v : ℕ) → is_listed (needs_with stays f n).arrays v ≡ true → is_listed many v ≡ true)
+        → AreFlowsIn (sweep w many) (needs_with stays f n).flows
     by_stays rest false is all_held = rest all_held
     by_stays rest true is all_held =
         let below : (v : ℕ) → is_listed n.arrays v ≡ true → is_listed many v ≡ true = λ v t. all_held v (listed_back (arrays_in f.formula) n.arrays v t) in (

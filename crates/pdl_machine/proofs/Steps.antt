@@ -16,7 +16,7 @@ use Rattle.pdl_machine.specs.Watches.{Watches, notices}
 use Rattle.pdl_watch.specs.declared.notice.Notice.{Notice}
 use Rattle.pdl_watch.specs.Changes.{changes}
 use Rattle.pdl_syntax.specs.StatementTree.{StatementTree}
-use Rattle.pdl_machine.specs.Flows.{Flows, all_read, is_reached, Needs, with_flow, needs_of}
+use Rattle.pdl_machine.specs.Flows.{Flows, all_read, is_reached, Needs, needs_with, needs_of}
 use Rattle.pdl_machine.specs.State.{State, held, needs}
 use Rattle.pdl_machine.specs.Tidy.{with_parent, numbered, settled, tidy}
 use Rattle.pdl_machine.specs.Step.{Stepped, Done, left, done, effect}
@@ -128,7 +128,7 @@ needs_in w u [] hs there read = there
 needs_in w u (f ∷ flows) hs there read =
     by_stays (needs_in w u flows hs there (back_in w (arrays_in f.formula) (all_read flows) read)) (is_reached u (needs_of u flows hs).arrays f.root)
   where
-    by_stays : AreIn w (needs_of u flows hs).arrays → (stays : Bool) → AreIn w (with_flow stays f (needs_of u flows hs)).arrays
+    by_stays : AreIn w (needs_of u flows hs).arrays → (stays : Bool) → AreIn w (needs_with stays f (needs_of u flows hs)).arrays
     by_stays rest true = append_in w (arrays_in f.formula) (needs_of u flows hs).arrays (front_in w (arrays_in f.formula) (all_read flows) read) rest
     by_stays rest false = rest
 
@@ -137,8 +137,8 @@ needs_more more w [] hs sound there read = refl
 needs_more more w (f ∷ flows) hs sound there read =
     let others : AreIn w (all_read flows) = back_in w (arrays_in f.formula) (all_read flows) read in
     let n : Needs = needs_of w flows hs in
-    ap (λ (m : Needs). with_flow (is_reached (more ++ w) m.arrays f.root) f m) (needs_more more w flows hs sound there others)
-    ∙ ap (λ (stays : Bool). with_flow stays f n) (reached_more more w n.arrays f.root sound (needs_in w w flows hs there others))
+    ap (λ (m : Needs). needs_with (is_reached (more ++ w) m.arrays f.root) f m) (needs_more more w flows hs sound there others)
+    ∙ ap (λ (stays : Bool). needs_with stays f n) (reached_more more w n.arrays f.root sound (needs_in w w flows hs there others))
 
 -- the state with these flows and arrays, numbered anew
 abbrev left_with : State → Needs → World → State

@@ -6,7 +6,7 @@ use Rattle.pdl_world.specs.Sound.{NumbersBelow, IsSound, IsAllowed}
 use Rattle.pdl_world.specs.SweepLaws.{SweepsSoundly, ReachedAreSeenAsBefore}
 use Rattle.pdl_world.specs.Swept.{is_listed, parents, kept_onto, sweep, held_itself}
 use Rattle.pdl_world.specs.World.{World, ArrayDef, root, view, Look}
-use Rattle.pdl_machine.specs.Flows.{Flows, flow_by, is_reached, Needs, with_flow, needs_of}
+use Rattle.pdl_machine.specs.Flows.{Flows, flow_by, is_reached, Needs, needs_with, needs_of}
 use Rattle.pdl_machine.specs.State.{State, held, needs, kept, IsSwept, AreLive, IsWhole}
 use Rattle.pdl_machine.specs.Tidy.{older, with_parent, renumber, settled, tidy}
 use Rattle.pdl_machine.specs.Dumpable.{ViewsAreWritable}
@@ -94,7 +94,7 @@ short_flows : (w : World) (flows : Flows) (hs : List ℕ) → length (needs_of w
 short_flows w [] hs = omega arith
 short_flows w (f ∷ flows) hs = by_stays (short_flows w flows hs) (is_reached w (needs_of w flows hs).arrays f.root)
   where
-    by_stays : length (needs_of w flows hs).flows ≤ length flows → (stays : Bool) → length (with_flow stays f (needs_of w flows hs)).flows ≤ suc (length flows)
+    by_stays : length (needs_of w flows hs).flows ≤ length flows → (stays : Bool) → length (needs_with stays f (needs_of w flows hs)).flows ≤ suc (length flows)
     by_stays rest true = omega (arith, rest)
     by_stays rest false = omega (arith, rest)
 
@@ -103,7 +103,7 @@ all_stay w [] hs long = refl
 all_stay w (f ∷ flows) hs long = by_stays (all_stay w flows hs) (is_reached w (needs_of w flows hs).arrays f.root) long
   where
     by_stays : (length flows ≤ length (needs_of w flows hs).flows → (needs_of w flows hs).flows ≡ flows) → (stays : Bool)
-        → suc (length flows) ≤ length (with_flow stays f (needs_of w flows hs)).flows → (with_flow stays f (needs_of w flows hs)).flows ≡ f ∷ flows
+        → suc (length flows) ≤ length (needs_with stays f (needs_of w flows hs)).flows → (needs_with stays f (needs_of w flows hs)).flows ≡ f ∷ flows
     by_stays rest true l = ap (λ (fs : Flows). f ∷ fs) (rest (omega (arith, l)))
     by_stays rest false l = absurd (omega (arith, l, short_flows w flows hs))
 

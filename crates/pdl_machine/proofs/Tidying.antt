@@ -6,14 +6,14 @@ use Rattle.pdl_world.specs.World.{World, ArrayDef, root, view}
 use Rattle.pdl_machine.specs.Names.{KernelTexts, Named, Names}
 use Rattle.pdl_machine.specs.Flows.{Flows, flow_by, Needs, needs_of}
 use Rattle.pdl_machine.specs.State.{State, held, needs, kept}
-use Rattle.pdl_machine.specs.Laws.{LettingGoUnseen, SweepsByFewer}
+use Rattle.pdl_machine.specs.Laws.{LettingGoUnseen, SettlingUnseen, SweepsByFewer}
 use Rattle.pdl_world.specs.Swept.{is_listed, parents, kept_onto, sweep}
-use Rattle.pdl_machine.specs.Tidy.{older, with_parent, renumber, renumbered, with_numbers, tidy}
+use Rattle.pdl_machine.specs.Tidy.{older, with_parent, renumber, renumbered, with_numbers, settled, tidy}
 use Rattle.std.proofs.lemmas.List.{map-append}
 use Rattle.pdl_machine.specs.Watches.{Watches, attached}
 use Rattle.pdl_machine.proofs.WatchLemmas.{attached_renamed}
 use Rattle.pdl_machine.proofs.Renamed.{IsApart, same_test, holds_renamed, Renames, empty, more, same, StateAlike}
-use Rattle.pdl_machine.proofs.FlowLemmas.{needs_by, needs_renamed, needs_kept, flows_twice}
+use Rattle.pdl_machine.proofs.FlowLemmas.{needs_by, needs_renamed, needs_kept, needs_again, flows_twice}
 
 -- a world under other numbers
 abbrev pub renamed : (ℕ → ℕ) → World → World
@@ -165,3 +165,10 @@ pub letting_go_is_unseen : LettingGoUnseen
 letting_go_is_unseen = λ s many h.
     ap (λ (n : Needs). numbered_by s n.flows (sweep (sweep s.arrays.world many) n.arrays)) (needs_kept s.arrays.world many s.flows (held s) h)
     ∙ ap (numbered_by s (needs s).flows) (sweep_again s.arrays.world many (needs s).arrays h)
+
+-- what is needed is needed again
+pub settling_is_unseen : SettlingUnseen
+settling_is_unseen s =
+    let again : needs (settled s) ≡ needs s = needs_again s.arrays.world s.flows (held s) in
+    letting_go_is_unseen (settled s) (needs s).arrays (λ v t. ap (λ (n : Needs). is_listed n.arrays v) (sym again) ∙ t)
+    ∙ ap (λ (n : Needs). numbered_by s n.flows (sweep s.arrays.world n.arrays)) again

@@ -24,6 +24,10 @@ is_flow flows v = list_any (λ f. f.root == v) flows
 abbrev pub all_read : Flows → List ℕ
 all_read flows = flat_map (λ f. arrays_in f.formula) flows
 
+-- flows with one more
+abbrev pub flows_with : Flows → (root : ℕ) → FormulaTree → Flows
+flows_with flows r f = flows ++ record { root = r; formula = f } ∷ []
+
 -- the flows but that of a root
 abbrev pub without_flow : Flows → ℕ → Flows
 without_flow [] v = []
@@ -50,17 +54,17 @@ pub record Needs : Type 0 where
   pub flows : Flows
   pub arrays : List ℕ
 
--- a flow that stays needs what its formula reads
-abbrev pub with_flow : (stays : Bool) → Flow → Needs → Needs
-with_flow true f n = record { flows = f ∷ n.flows; arrays = arrays_in f.formula ++ n.arrays }
-with_flow false f n = n
+-- what is needed with one flow more: one that stays needs what its formula reads
+abbrev pub needs_with : (stays : Bool) → Flow → Needs → Needs
+needs_with true f n = record { flows = f ∷ n.flows; arrays = arrays_in f.formula ++ n.arrays }
+needs_with false f n = n
 
 -- Where these arrays are held, a flow stays whose root they or what the flows that stay need
 -- reach. The newest flow comes first, since no formula reads newer arrays.
 abbrev pub needs_of : World → Flows → (held : List ℕ) → Needs
 needs_of w [] hs = record { flows = []; arrays = hs }
 needs_of w (f ∷ flows) hs =
-    let newer = needs_of w flows hs in with_flow (is_reached w newer.arrays f.root) f newer
+    let newer = needs_of w flows hs in needs_with (is_reached w newer.arrays f.root) f newer
 
 -- An array is needed where it is held, is the parent of a view that is needed, or is read by the
 -- formula of a flow whose root is needed.
@@ -80,3 +84,7 @@ abbrev pub affected : World → Flows → (roots : List ℕ) → Flows
 affected w [] roots = []
 affected w (f ∷ flows) roots = if reads_from w f roots then f ∷ affected w flows (f.root ∷ roots)
     else affected w flows roots
+
+-- the flows that follow an assignment to an array
+abbrev pub followers : World → Flows → (target : ℕ) → Flows
+followers w flows v = affected w flows (root_of w v ∷ [])

@@ -14,9 +14,9 @@ use Rattle.pdl_machine.specs.declared.builtin.Builtin.TheVariants.{Nice}
 use Rattle.pdl_machine.specs.Builtin.{views, builtin_of}
 use Rattle.pdl_machine.specs.Names.{names_limit, kernels_limit, number_of}
 use Rattle.pdl_machine.specs.Arrays.{Arrays, array_in}
-use Rattle.pdl_machine.specs.Flows.{Flow, all_read, IsNeeded}
+use Rattle.pdl_machine.specs.Flows.{Flow, all_read, is_reached, IsNeeded}
 use Rattle.pdl_machine.specs.State.{State, with_arrays, with_world, held, needs, kept, IsSwept, AreLive, IsWhole}
-use Rattle.pdl_machine.specs.Tidy.{tidy}
+use Rattle.pdl_machine.specs.Tidy.{settled, tidy}
 use Rattle.pdl_machine.specs.Watches.{Watches, attached, trimmed, AreThere, notices}
 use Rattle.pdl_machine.specs.Step.{Done, effect, step}
 
@@ -53,10 +53,18 @@ LettingGoUnseen = (s : State) (many : List ℕ) →
     ((v : ℕ) → is_listed (needs s).arrays v ≡ true → is_listed many v ≡ true) →
     tidy (with_world s (sweep s.arrays.world many)) ≡ tidy s
 
+-- and so is letting go of the flows and the arrays that the state doesn't keep
+abbrev pub SettlingUnseen : Type 0
+SettlingUnseen = (s : State) → tidy (with_world (settled s) (kept s)) ≡ tidy s
+
 -- each array of the state is reached
 abbrev pub AreAllReached : State → Type 0
 AreAllReached s = (k : ℕ) (d : ArrayDef) → Has s.arrays.world k d →
     IsReached s.arrays.world (needs s).arrays k
+
+-- an array on the path of one that is held is reached
+abbrev pub PathsReach : Type 0
+PathsReach = (w : World) (held : List ℕ) (v : ℕ) → is_reached w held v ≡ true → IsReached w held v
 
 -- after a step each array that is left is reached
 abbrev pub StepsLeaveReached : Type 0

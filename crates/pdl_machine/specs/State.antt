@@ -1,12 +1,13 @@
 -- The state of a machine between two statements.
 use Rattle.std.specs.Prelude.{◌≡◌, ℕ, List, [], ◌∷◌, ◌++◌, map}
+use Rattle.pdl_flow.specs.Formula.{FormulaTree}
 use Rattle.pdl_world.specs.World.{World}
 use Rattle.pdl_world.specs.Sound.{NumbersBelow, IsSound, IsLive}
 use Rattle.pdl_world.specs.Swept.{sweep}
 use Rattle.pdl_machine.specs.Names.{Names, nothing_named}
 use Rattle.pdl_machine.specs.Arrays.{Arrays, no_arrays}
 use Rattle.pdl_machine.specs.Watches.{Watches, attached}
-use Rattle.pdl_machine.specs.Flows.{Flows, Needs, needs_of}
+use Rattle.pdl_machine.specs.Flows.{Flows, flows_with, Needs, needs_of}
 use Rattle.pdl_machine.specs.Following.{AreFlows}
 
 -- Names, of arrays and of kernels, the arrays that they are bound to, by slots the arrays that
@@ -28,6 +29,10 @@ with_arrays s a = record s { arrays = a }
 -- with the arrays of another world
 abbrev pub with_world : State → World → State
 with_world s w = with_arrays s (record s.arrays { world = w })
+
+-- with one flow more
+abbrev pub with_flow : State → (root : ℕ) → FormulaTree → State
+with_flow s r f = record s { flows = flows_with s.flows r f }
 
 -- the arrays that the state holds by itself: those that names are bound to, and those that
 -- watchers are attached to

@@ -18,7 +18,7 @@ use Rattle.pdl_machine.specs.Arrays.{Arrays, array_in}
 use Rattle.pdl_machine.specs.Flows.{Flows, is_flow, without_flow}
 use Rattle.pdl_machine.specs.Following.{followed}
 use Rattle.pdl_machine.specs.Formulas.{formula_of}
-use Rattle.pdl_machine.specs.State.{State, with_arrays}
+use Rattle.pdl_machine.specs.State.{State, with_arrays, with_flow}
 use Rattle.pdl_machine.specs.Watches.{attaching, detaching, notices}
 use Rattle.pdl_machine.specs.Outcome.{Given, Valued, all_seen, new_root}
 use Rattle.pdl_machine.specs.Operators.{values_for}
@@ -55,7 +55,7 @@ bind_severed s x v = bind_value (ending s v.1) x (cut v.0 v.1, v.1)
 
 -- the state with one flow more, whose root is the next of these arrays
 abbrev pub begun : State → Arrays → FormulaTree → State
-begun s a f = record s { flows = s.flows ++ record { root = a.next; formula = f } ∷ [] }
+begun s a f = with_flow s a.next f
 
 -- a new root of a value, which equals the formula of the expression, bound to a name
 abbrev pub flowing : State → (name : List ℕ) → (formula : Tree) → Arrays × ℕ → Stepped

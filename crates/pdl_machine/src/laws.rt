@@ -4,9 +4,9 @@ ghost use Rattle.pdl_machine.specs.WorkedCuts.{ACutTakesItsViews, ACutGivesPlace
 ghost use Rattle.pdl_machine.specs.WorkedWatches.{AViewTells, AWatchKeepsItsArray, ASlotIsGivenUp, WatchersAreRefused};
 ghost use Rattle.pdl_machine.specs.WorkedFlows.{AFlowFollows, FlowsFollowFlows, AViewKeepsItsFlow, FlowsAreRefused};
 ghost use Rattle.pdl_machine.specs.WorkedNice.{PatternsAreFilledIn, NiceSlicesAreSlices, ValuesLookUp, NiceFaultsInOrder};
-ghost use Rattle.pdl_machine.specs.Laws.{StepsAlike, NewArraysUnseen, LettingGoUnseen, SweepsByFewer, StepsLeaveReached, TidyingShowsTheSame, KeptAreNeeded, NeededFlowsStay};
+ghost use Rattle.pdl_machine.specs.Laws.{StepsAlike, NewArraysUnseen, LettingGoUnseen, SweepsByFewer, StepsLeaveReached, TidyingShowsTheSame, KeptAreNeeded, NeededFlowsStay, PathsReach, SettlingUnseen};
 ghost use Rattle.pdl_machine.specs.Laws.{LimitsAre, ViewsAreViewWords, OnlyAssignmentsTell, GrowingTellsTheSame, StepsGiveNone, StepsKeepThere, EitherTextOrNotices, TrimmingAttachesTheSame};
-ghost use Rattle.pdl_machine.specs.FlowLaws.{FlowsFollow, OnlyAffectedFollow, FlowsRest, OthersKeepFlows, TidyingKeepsFlows, FormulasAreValues};
+ghost use Rattle.pdl_machine.specs.FlowLaws.{FlowsStay, FlowsFollow, OnlyAffectedFollow, FlowsRest, OthersKeepFlows, LettingGoKeepsFlows, TidyingKeepsFlows, FormulasAreValues};
 
 use pdl_flow::meaning_laws;
 use pdl_watch::{change_laws, slot_laws};
@@ -16,14 +16,16 @@ use pdl_world::{assignment_laws, cut_laws, growth_laws, newest_laws, reshape_law
 /// the renumbered state is the step (`alike`): so code may number its arrays as it likes. New
 /// arrays that nothing reaches are unseen in the tidied state (`unseen`), and so is letting go of
 /// arrays while all that the state needs is held (`gone`), also one after another: a sweep by fewer
-/// after one by more is the sweep by fewer (`again`). An array that is left over can be seen by the
-/// next statement, since a view of an array refuses it other dimensions: so code lets go what
-/// nothing reaches at the end of each. The call does nothing when it runs.
+/// after one by more is the sweep by fewer (`again`); so is letting go of all that the state doesn't
+/// keep, flows and arrays (`settled`). An array that is left over can be seen by the next statement,
+/// since a view of an array refuses it other dimensions: so code lets go what nothing reaches at the
+/// end of each. The call does nothing when it runs.
 pub fn numbering_laws()
     ensures alike { StepsAlike }
     ensures unseen { NewArraysUnseen }
     ensures gone { LettingGoUnseen }
     ensures again { SweepsByFewer }
+    ensures settled { SettlingUnseen }
 {}
 
 /// The laws of the arrays and flows that a step keeps. The arrays are the least set that has those
@@ -31,12 +33,14 @@ pub fn numbering_laws()
 /// root it has (`needed`); the flows that stay are those whose root it has (`stay`). So after a step
 /// each array is reached from a name, a watch or the formula of a flow that is kept, directly or
 /// through views (`reached`), and letting the others go changes nothing that a name shows
-/// (`shown`). The call does nothing when it runs.
+/// (`shown`). An array on the path of one that is held is reached (`paths`). The call does nothing
+/// when it runs.
 pub fn reaching_laws()
     ensures needed { KeptAreNeeded }
     ensures stay { NeededFlowsStay }
     ensures reached { StepsLeaveReached }
     ensures shown { TidyingShowsTheSame }
+    ensures paths { PathsReach }
 {
     sweep_laws()
 }
@@ -110,17 +114,21 @@ pub fn limits_law()
     ensures { LimitsAre }
 {}
 
-/// The laws of flows. After an assignment, flows that follow one after another equal their formulas
-/// again (`follow`), of which only those have to that read what changed, directly or through flows
-/// (`affected`); those that equal them already change nothing (`rest`); any other statement leaves
-/// them so (`others`), and so does letting go and numbering anew (`tidied`). An expression that is
-/// a formula has the formula's value (`values`). So after each step the root of each flow shows
-/// what its formula is. The call does nothing when it runs.
+/// The laws of flows. They equal their formulas as long as what these read shows the same, and their
+/// roots are seen as before (`stay`). After an assignment, flows that follow one after another equal
+/// their formulas again (`follow`), of which only those have to that read what changed, directly or
+/// through flows (`affected`); those that equal them already change nothing (`rest`); any other
+/// statement leaves them so (`others`), and so does letting go of what isn't needed (`kept`), also
+/// with the others numbered anew (`tidied`). An expression that is a formula has the formula's value
+/// (`values`). So after each step the root of each flow shows what its formula is. The call does
+/// nothing when it runs.
 pub fn flow_laws()
+    ensures stay { FlowsStay }
     ensures follow { FlowsFollow }
     ensures affected { OnlyAffectedFollow }
     ensures rest { FlowsRest }
     ensures others { OthersKeepFlows }
+    ensures kept { LettingGoKeepsFlows }
     ensures tidied { TidyingKeepsFlows }
     ensures values { FormulasAreValues }
 {

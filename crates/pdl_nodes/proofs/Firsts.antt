@@ -1,5 +1,5 @@
 -- The oldest number from one on, in a list of keys and in rows.
-use Rattle.std.proofs.Common.{◌≡◌, ℕ, ◌+◌, ◌<◌, ◌≤◌, true, false, cond, leb, List, [], ◌∷◌, Option, Some, None, inl, inr, refl, sym, ◌∙◌, ap, arith}
+use Rattle.std.proofs.Common.{◌≡◌, ℕ, ◌+◌, ◌<◌, ◌≤◌, true, false, cond, leb, List, [], ◌∷◌, map, Option, Some, None, inl, inr, refl, sym, ◌∙◌, ap, arith}
 use Rattle.std.proofs.lemmas.Bool.Decides.{eqb_tells, leb_tells}
 use Rattle.slab.specs.Slab.{Slab}
 use Rattle.pdl_registry.specs.Numbered.{AllAbove, Rises, first_from, value_at}
@@ -78,7 +78,7 @@ first_same rs n (Some m) None a b = absurd (b m a.1 a.0)
 first_same rs n (Some m) (Some k) a b = (let x : m ≤ k = a.2 k b.1 b.0 in let y : k ≤ m = b.2 m a.1 a.0 in let e : m ≡ k = omega arith in ap Some e)
 
 -- none from n on
-none_from : (n : ℕ) (es : List (ℕ × ℕ)) → first_from es n ≡ None → (v y : ℕ) → value_at es v ≡ Some y → n ≤ v → ⊥
+none_from : (n : ℕ) (es : List (ℕ × ℕ)) → first_from (map (λ e. e.0) es) n ≡ None → (v y : ℕ) → value_at es v ≡ Some y → n ≤ v → ⊥
 none_from n [] h v y g l = absurd (cc)
 none_from n (e ∷ es) h v y g l = elim (leb_tells n e.0) [
   | inl t ↦ (let x : Some e.0 ≡ None = rw t.0 at h in absurd (cc))
@@ -98,7 +98,7 @@ above_value n (e ∷ es) k x a h = elim (eqb_tells e.0 k) [
   | inr t ↦ above_value n es k x a.1 (rw (at_other k e.0 t.1) at h)
 ]
 
-first_in : (n : ℕ) (es : List (ℕ × ℕ)) (k : ℕ) → Rises es → first_from es n ≡ Some k → (x : ℕ) × IsFirstIn n es k x
+first_in : (n : ℕ) (es : List (ℕ × ℕ)) (k : ℕ) → Rises es → first_from (map (λ e. e.0) es) n ≡ Some k → (x : ℕ) × IsFirstIn n es k x
 first_in n [] k r h = absurd (cc)
 first_in n (e ∷ es) k r h = elim (leb_tells n e.0) [
   | inl t ↦ (let f : Some e.0 ≡ Some k = rw t.0 at h in
@@ -130,9 +130,9 @@ key_found t keys nodes v None e s h = let x : false ≡ true = sym (s.none v e) 
 key_found t keys nodes v (Some k) e s h = (k, e)
 
 -- the first number from n on is the rows'
-pub from_is : (t : Rows) (keys : List (ℕ × ℕ)) (nodes : Slab Row) (n : ℕ) → rows_of nodes keys ≡ t → IsTable keys nodes → first_from keys n ≡ from t n
-from_is t keys nodes n e i = by (first_from keys n) refl where
-  by : (o : Option ℕ) → first_from keys n ≡ o → o ≡ from t n
+pub from_is : (t : Rows) (keys : List (ℕ × ℕ)) (nodes : Slab Row) (n : ℕ) → rows_of nodes keys ≡ t → IsTable keys nodes → first_from (map (λ e. e.0) keys) n ≡ from t n
+from_is t keys nodes n e i = by (first_from (map (λ e. e.0) keys) n) refl where
+  by : (o : Option ℕ) → first_from (map (λ e. e.0) keys) n ≡ o → o ≡ from t n
   by None h =
       let s : Shows t keys nodes = seen t keys nodes e i in
       first_same t n None (from t n) (λ v l m. (let f : (y : ℕ) × (value_at keys v ≡ Some y) = key_found t keys nodes v (value_at keys v) refl s l in none_from n keys h v f.0 f.1 m)) (is_first t n s.falls)

@@ -31,7 +31,7 @@ use Rattle.pdl_nodes.proofs.Shapes.{marked_live}
 use Rattle.pdl_nodes.proofs.WorldLemmas.{look_with}
 use Rattle.pdl_nodes.proofs.RenewRows.{After, IsMoved, IsRenewed, IsUntouched, all_after, is_untouched, looks_same, renew_has, renew_row, renew_shape, renew_sized, renew_still}
 use Rattle.pdl_nodes.specs.Renewed.{Layouts, renewed, renew, CanRenew}
-use Rattle.pdl_nodes.specs.RenewLaws.{RenewingRoots, RenewingReshapes, RenewedAreOutdated, RenewingLeavesFamilies, RenewedAreSettled, RenewedAreKnown, RenewedAreSized}
+use Rattle.pdl_nodes.specs.RenewLaws.{RenewingRoots, RenewingReshapes, RenewedAreOutdated, RenewingLeavesFamilies, RenewingLeavesOthers, RenewedAreSettled, RenewedAreKnown, RenewedAreSized}
 
 is_same : (ls : Layouts) (rs : Rows) (v : ℕ) (ds : List ℕ) (es : List ℤ) (rt u : ℕ) → IsRenewed ls rs v ds es rt → has rs u ≡ true → ((row_at (renew ls rs v ds es) u).root ≡ v → ⊥) → IsSame rs (renew ls rs v ds es) u
 is_same ls rs v ds es rt u c h n = record {
@@ -215,6 +215,10 @@ outdated laws = λ ls rs v ds es c u h g.
 others_by : (v rt u : ℕ) (old new : Row) → (old.root ≡ rt → ⊥) → After v rt u old new → new ≡ old
 others_by v rt u old new n (inl a) = a.row
 others_by v rt u old new n (inr a) = absurd (n a.was)
+
+pub leaves_others : RenewingLeavesOthers
+leaves_others = λ ls rs v ds es c u h n.
+    (is_untouched v (row_at rs v).root u (row_at rs u) (row_at (renew ls rs v ds es) u) (all_after ls rs v ds es (row_at rs v).root (is_renewed ls rs v ds es c) u h) n).row
 
 pub leaves_families : RenewingLeavesFamilies
 leaves_families = λ ls rs v ds es c u h n. others_by v (row_at rs v).root u (row_at rs u) (row_at (renew ls rs v ds es) u) n (all_after ls rs v ds es (row_at rs v).root (is_renewed ls rs v ds es c) u h)

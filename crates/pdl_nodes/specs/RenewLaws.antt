@@ -35,7 +35,15 @@ RenewedAreOutdated =
     → (u : ℕ) → has rs u ≡ true → (row_at (renew ls rs v ds es) u).root ≡ v
     → is_fresh_in (renew ls rs v ds es) u ≡ ((row_at (renew ls rs v ds es) u).base == v)
 
--- the rows of other families stay, with their marks and all that is kept
+-- a row whose root isn't v then stays, with its mark and all that is kept
+abbrev pub RenewingLeavesOthers : Type 0
+RenewingLeavesOthers =
+    (ls : Layouts) (rs : Rows) (v : ℕ) (ds : List ℕ) (es : List ℤ)
+    → CanRenew ls rs v ds es
+    → (u : ℕ) → has rs u ≡ true → (row_at (renew ls rs v ds es) u).root ≢ v
+    → row_at (renew ls rs v ds es) u ≡ row_at rs u
+
+-- so do the rows of other families
 abbrev pub RenewingLeavesFamilies : Type 0
 RenewingLeavesFamilies =
     (ls : Layouts) (rs : Rows) (v : ℕ) (ds : List ℕ) (es : List ℤ)

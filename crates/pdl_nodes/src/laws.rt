@@ -1,5 +1,5 @@
 //! Laws of the definitions, for the proofs of the crates above.
-ghost use Rattle.pdl_nodes.specs.RenewLaws.{RenewingRoots, RenewingReshapes, RenewingSevers, RelaidCanRenew, RelaidStay, RenewedAreOutdated, RenewingLeavesFamilies};
+ghost use Rattle.pdl_nodes.specs.RenewLaws.{RenewingRoots, RenewingReshapes, RenewingSevers, RelaidCanRenew, RelaidStay, RenewedAreOutdated, RenewingLeavesFamilies, RenewingLeavesOthers};
 ghost use Rattle.pdl_nodes.specs.RenewLaws.{RenewedAreSettled, RenewedAreKnown, RenewedAreSized, RenewingKeepsNumbers, RenewingMakesRoots};
 ghost use Rattle.pdl_nodes.specs.RowLaws.{RowLaws};
 
@@ -17,8 +17,9 @@ pub fn row_laws()
 
 /// What becomes of rows in order, and of their world, where an array becomes a root, by a cut or by
 /// other dimensions (PDL::Core, sever and reshape). They mean the world in which it is this root.
-/// Of its family exactly those are fresh whose base it is; nothing waits in the families of those
-/// that were of the array's, and the rows of others stay. It does nothing: who calls it has them.
+/// Of its family exactly those are fresh whose base it is; the rows of all others stay, of its old
+/// family too, and nothing waits in the families of those that were of it. It does nothing: who
+/// calls it has them.
 pub fn renewed_row_laws()
     ensures roots { RenewingRoots }
     ensures reshapes { RenewingReshapes }
@@ -26,6 +27,7 @@ pub fn renewed_row_laws()
     ensures relaid { RelaidCanRenew }
     ensures stay { RelaidStay }
     ensures outdated { RenewedAreOutdated }
+    ensures others { RenewingLeavesOthers }
     ensures families { RenewingLeavesFamilies }
     ensures settled { RenewedAreSettled }
     ensures known { RenewedAreKnown }

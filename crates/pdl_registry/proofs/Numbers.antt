@@ -1,5 +1,5 @@
 -- What lists of numbers in rising order hold of a number, and what edits do.
-use Rattle.std.proofs.Common.{◌≡◌, ℕ, zero, suc, ◌<◌, ◌≤◌, Bool, true, false, List, [], ◌∷◌, ◌++◌, length, get_or, set, filter, reverse, not, is_some, Option, Some, None, inl, inr, refl, sym, ◌∙◌, ap, subst, arith}
+use Rattle.std.proofs.Common.{◌≡◌, ℕ, zero, suc, ◌<◌, ◌≤◌, Bool, true, false, List, [], ◌∷◌, ◌++◌, length, get_or, set, filter, map, reverse, not, is_some, Option, Some, None, inl, inr, refl, sym, ◌∙◌, ap, subst, arith}
 use Rattle.std.proofs.lemmas.Bool.Decides.{eqb_tells, leb_tells}
 use Rattle.std.proofs.lemmas.List.{append_assoc, reverse-append}
 use Rattle.std.specs.BTreeMap.{BTreeMap, UpdatesBy, insert_entry, is_at}
@@ -321,7 +321,10 @@ module _ {V : Type 0} where
   first_moved es ((k, x) ∷ fs) d lt r = ap (λ l. reverse l ++ fs) (entry_first es fs k x r) ∙ ap (λ l. l ++ fs) (turned (k, x) es) ∙ append_assoc (reverse es) ((k, x) ∷ []) fs
 
   -- the first number from v on
-  pub first_append : (es fs : List (ℕ × V)) (v : ℕ) → first_from (es ++ fs) v ≡ option_or (first_from es v) (first_from fs v)
+  abbrev pub first_of : List (ℕ × V) → ℕ → Option ℕ
+  first_of es v = first_from (map (λ e. e.0) es) v
+
+  pub first_append : (es fs : List (ℕ × V)) (v : ℕ) → first_of (es ++ fs) v ≡ option_or (first_of es v) (first_of fs v)
   first_append [] fs v = refl
   first_append (e ∷ es) fs v = elim (leb_tells v e.0) [
     | inl t ↦ rw t.0 refl
@@ -341,17 +344,17 @@ module _ {V : Type 0} where
   inside_false v e l = ap (λ o. not (is_lt o)) (sym (nat_cmp_is e.0 v Less l))
 
   -- what the map's first entry adds, which is its highest number
-  first_turned : (e : ℕ × V) (es : List (ℕ × V)) (v : ℕ) (o : Option ℕ) → first_from (e ∷ []) v ≡ o → first_from (reverse (e ∷ es)) v ≡ option_or (first_from (reverse es) v) o
-  first_turned e es v o h = ap (λ l. first_from l v) (turned e es) ∙ first_append (reverse es) (e ∷ []) v ∙ ap (option_or (first_from (reverse es) v)) h
+  first_turned : (e : ℕ × V) (es : List (ℕ × V)) (v : ℕ) (o : Option ℕ) → first_of (e ∷ []) v ≡ o → first_of (reverse (e ∷ es)) v ≡ option_or (first_of (reverse es) v) o
+  first_turned e es v o h = ap (λ l. first_of l v) (turned e es) ∙ first_append (reverse es) (e ∷ []) v ∙ ap (option_or (first_of (reverse es) v)) h
 
-  pub none_between : (es : List (ℕ × V)) (v : ℕ) → filter (inside v) es ≡ [] → first_from (reverse es) v ≡ None
+  pub none_between : (es : List (ℕ × V)) (v : ℕ) → filter (inside v) es ≡ [] → first_of (reverse es) v ≡ None
   none_between [] v h = refl
   none_between (e ∷ es) v h = elim (leb_tells v e.0) [
     | inl t ↦ (let f : e ∷ filter (inside v) es ≡ [] = rw (inside_true v e t.1) at h in absurd (cc))
-    | inr t ↦ first_turned e es v None (rw t.0 refl) ∙ or_none (first_from (reverse es) v) ∙ none_between es v (rw (inside_false v e (omega (arith, t.1))) at h)
+    | inr t ↦ first_turned e es v None (rw t.0 refl) ∙ or_none (first_of (reverse es) v) ∙ none_between es v (rw (inside_false v e (omega (arith, t.1))) at h)
   ]
 
-  pub last_between : (es rest : List (ℕ × V)) (v k : ℕ) (x : V) → filter (inside v) es ≡ rest ++ (k, x) ∷ [] → first_from (reverse es) v ≡ Some k
+  pub last_between : (es rest : List (ℕ × V)) (v k : ℕ) (x : V) → filter (inside v) es ≡ rest ++ (k, x) ∷ [] → first_of (reverse es) v ≡ Some k
   last_between [] [] v k x h = absurd (cc)
   last_between [] (r ∷ rest) v k x h = absurd (cc)
   last_between (e ∷ es) [] v k x h = elim (leb_tells v e.0) [
@@ -359,13 +362,13 @@ module _ {V : Type 0} where
         let a : e ≡ (k, x) = cc in
         let z : filter (inside v) es ≡ [] = cc in
         first_turned e es v (Some e.0) (rw t.0 refl) ∙ ap (λ o. option_or o (Some e.0)) (none_between es v z) ∙ ap (λ p. Some p.0) a)
-    | inr t ↦ first_turned e es v None (rw t.0 refl) ∙ or_none (first_from (reverse es) v) ∙ last_between es [] v k x (rw (inside_false v e (omega (arith, t.1))) at h)
+    | inr t ↦ first_turned e es v None (rw t.0 refl) ∙ or_none (first_of (reverse es) v) ∙ last_between es [] v k x (rw (inside_false v e (omega (arith, t.1))) at h)
   ]
   last_between (e ∷ es) (r ∷ rest) v k x h = elim (leb_tells v e.0) [
     | inl t ↦ (let f : e ∷ filter (inside v) es ≡ r ∷ (rest ++ (k, x) ∷ []) = rw (inside_true v e t.1) at h in
         let z : filter (inside v) es ≡ rest ++ (k, x) ∷ [] = cc in
         first_turned e es v (Some e.0) (rw t.0 refl) ∙ ap (λ o. option_or o (Some e.0)) (last_between es rest v k x z))
-    | inr t ↦ first_turned e es v None (rw t.0 refl) ∙ or_none (first_from (reverse es) v) ∙ last_between es (r ∷ rest) v k x (rw (inside_false v e (omega (arith, t.1))) at h)
+    | inr t ↦ first_turned e es v None (rw t.0 refl) ∙ or_none (first_of (reverse es) v) ∙ last_between es (r ∷ rest) v k x (rw (inside_false v e (omega (arith, t.1))) at h)
   ]
 
   -- what the map says of a number, and of an edit

@@ -9,10 +9,10 @@ use Rattle.pdl_registry.specs.declared.limits.TheConstants.{MOST_NEWEST}
 abbrev pub value_at : {V : Type 0} → List (ℕ × V) → ℕ → Option V
 value_at es v = lookup (is_at (nat_cmp v)) es
 
--- the lowest number from v on
-abbrev pub first_from : {V : Type 0} → List (ℕ × V) → ℕ → Option ℕ
-first_from [] v = None
-first_from (e ∷ es) v = if nat_le v e.0 then Some e.0 else first_from es v
+-- the first of these numbers that isn't below n
+abbrev pub first_from : List ℕ → (n : ℕ) → Option ℕ
+first_from [] n = None
+first_from (k ∷ ks) n = if nat_le n k then Some k else first_from ks n
 
 -- each number is above v
 abbrev pub AllAbove : {V : Type 0} → ℕ → List (ℕ × V) → Type 0

@@ -1,6 +1,6 @@
 //! Values by numbers: `std`'s ordered map, the highest number first, and before it the newest,
 //! which are asked for most and go soonest.
-ghost use Rattle.std.specs.Prelude.{◌≡◌, ◌≢◌, ℕ, ◌<◌, ◌≤◌, ◌++◌, List, [], length, reverse, is_some, IsSome, IsSomeAnd, MatchOption, Some, None, IfSome, IfNone, OnOk, OnErr};
+ghost use Rattle.std.specs.Prelude.{◌≡◌, ◌≢◌, ℕ, ◌<◌, ◌≤◌, ◌++◌, List, [], length, map, reverse, is_some, IsSome, IsSomeAnd, MatchOption, Some, None, IfSome, IfNone, OnOk, OnErr};
 ghost use Rattle.std.specs.Option.{ForSome, option_copied};
 ghost use Rattle.pdl_registry.specs.Numbered.{IsAbove, IsPlace, IsPut, Rises, first_from, most_newest, value_at};
 
@@ -122,7 +122,7 @@ impl<V: Copy + Drop> Numbered<V> {
 
     /// The lowest number from this one on that has a value.
     pub fn from(&self, id: u64) -> Option<u64>
-        ensures { result ≡ first_from self.now id }
+        ensures { result ≡ first_from (map (λ e. e.0) self.now) id }
     {
         match self.settled.range(..=Descending::of(id)).next_back() {
             Some((first, _)) => Some(first.number()),
@@ -186,7 +186,7 @@ fn place<V>(entries: &[(u64, V)], id: u64) -> Option<usize>
 
 /// The first number from this one on.
 fn first_of<V>(entries: &[(u64, V)], id: u64) -> Option<u64>
-    ensures { result ≡ first_from entries.now id }
+    ensures { result ≡ first_from (map (λ e. e.0) entries.now) id }
 {
     let mut at = 0;
     while at < entries.len() {

@@ -17,18 +17,17 @@ use Rattle.pdl_world.specs.Swept.{is_listed}
 use Rattle.pdl_world.specs.World.{World, ArrayDef, look_of_root, root}
 use Rattle.pdl_machine.specs.Arrays.{Arrays, array_in, with_new}
 use Rattle.pdl_machine.specs.Cuts.{is_read}
-use Rattle.pdl_machine.specs.Flows.{Flow, Flows, all_read, is_reached}
+use Rattle.pdl_machine.specs.Flows.{Flow, Flows, all_read, flows_with, is_reached}
 use Rattle.pdl_machine.specs.Following.{AreFlows, AreOlder, IsFlow, RootsAbove}
 use Rattle.pdl_machine.specs.Names.{Names, bind}
 use Rattle.pdl_machine.specs.Outcome.{Valued, new_root}
-use Rattle.pdl_machine.specs.State.{AreLive, IsWhole}
+use Rattle.pdl_machine.specs.State.{AreLive, IsWhole, with_flow}
 use Rattle.pdl_machine.specs.Step.{Stepped, begun, bind_value, bound}
 use Rattle.pdl_machine.specs.Then.{and_then}
 use Rattle.pdl_machine.specs.Watches.{Watches}
 use Rattle.pdl_scope.specs.declared.fault.ScopeFault.{ScopeFault}
 use Rattle.pdl_scope.specs.Answers.{Runs}
 use Rattle.pdl_scope.specs.Growth.{grows_trans}
-use Rattle.pdl_scope.specs.Flowing.{flows_with, with_flow}
 use Rattle.pdl_scope.specs.Scope.{Scope, machine, times, Grows}
 use Rattle.pdl_engine.specs.Held.{count_at, holders, one_more_at}
 use Rattle.pdl_engine.specs.HoldLaws.{OneMoreCounts}
@@ -112,6 +111,7 @@ more_flows lie a b (g ∷ fs) r f below before h is =
 -- the laws of new roots
 pub record RootLaws : Type 0 where
   pub growth : GrowthLaws
+  pub meaning : MeaningLaws
   pub below : LiveLieBelow
   pub seen : NewRootIsSeen
   pub whole : NewRootIsWhole
@@ -132,7 +132,7 @@ root_flows laws a m f fs below sound formula live equals h =
       is_root = record { look_is = laws.whole w a.next m.ty m.dims m.elems; path_is = laws.path w a.next m.ty m.dims m.elems };
       is_formula = formula;
       older = older (arrays_in f) live;
-      equals = laws.growth.meaning.same (array_in b) (array_in a) f (each (arrays_in f) live) ∙ equals ∙ ap value_is (sym shows);
+      equals = laws.meaning.same (array_in b) (array_in a) f (each (arrays_in f) live) ∙ equals ∙ ap value_is (sym shows);
     })
   where
     w : World

@@ -14,7 +14,7 @@ use Rattle.pdl_image.specs.Image.{Image}
 use Rattle.pdl_image.specs.Laws.{LinesJoin}
 use Rattle.pdl_image.specs.Lines.{Line}
 use Rattle.pdl_image.specs.Stems.{index_name, name_at}
-use Rattle.pdl_engine.specs.Looks.{numbers_in, trans_in}
+use Rattle.pdl_engine.specs.Looks.{array_numbers, trans_in}
 use Rattle.pdl_machine.specs.Tidy.{older, renumber, with_parent}
 use Rattle.pdl_scope.specs.declared.fault.ScopeFault.{ScopeFault}
 use Rattle.pdl_scope.specs.declared.fault.ScopeFault.TheVariants.{Script, NoMemory}
@@ -25,25 +25,25 @@ use Rattle.pdl_scope.proofs.Numbers.{Laws, LooksLike, in_range, length-numbers, 
 -- ---- the array at a place
 
 -- the number that stands at a place is that of the array there
-pub number_at : (w : World) (ids : List ℕ) (i v : ℕ) → ids ≡ numbers_in w → slice_get ids i ≡ Some v → (array_at w i).0 ≡ v
+pub number_at : (w : World) (ids : List ℕ) (i v : ℕ) → ids ≡ array_numbers w → slice_get ids i ≡ Some v → (array_at w i).0 ≡ v
 number_at w ids i v is at =
-    let same : slice_get (numbers_in w) i ≡ Some v = subst (λ (ks : List ℕ). slice_get ks i ≡ Some v) is at in
-    let low : i < length w = subst (λ (m : ℕ). i < m) (length-numbers w) (in_range (numbers_in w) i v same) in
+    let same : slice_get (array_numbers w) i ≡ Some v = subst (λ (ks : List ℕ). slice_get ks i ≡ Some v) is at in
+    let low : i < length w = subst (λ (m : ℕ). i < m) (length-numbers w) (in_range (array_numbers w) i v same) in
     ap (number_or 0) (sym (number_is w i low) ∙ same)
 
 -- an array whose number stands at a place is there, and looks as it was made
-pub found_at : Laws → (w : World) (ids : List ℕ) (i v : ℕ) → IsSound w → ids ≡ numbers_in w → slice_get ids i ≡ Some v
+pub found_at : Laws → (w : World) (ids : List ℕ) (i v : ℕ) → IsSound w → ids ≡ array_numbers w → slice_get ids i ≡ Some v
     → IsLive w v × LooksLike w v (array_at w i).1
 found_at laws w ids i v sound is at =
-    let same : slice_get (numbers_in w) i ≡ Some v = subst (λ (ks : List ℕ). slice_get ks i ≡ Some v) is at in
-    let low : i < length w = subst (λ (m : ℕ). i < m) (length-numbers w) (in_range (numbers_in w) i v same) in
+    let same : slice_get (array_numbers w) i ≡ Some v = subst (λ (ks : List ℕ). slice_get ks i ≡ Some v) is at in
+    let low : i < length w = subst (λ (m : ℕ). i < m) (length-numbers w) (in_range (array_numbers w) i v same) in
     subst (λ (u : ℕ). IsLive w u × LooksLike w u (array_at w i).1) (number_at w ids i v is at) (looks_at laws w i sound low)
 
-pub live_at : Laws → (w : World) (ids : List ℕ) (i v : ℕ) → IsSound w → ids ≡ numbers_in w → slice_get ids i ≡ Some v → IsLive w v
+pub live_at : Laws → (w : World) (ids : List ℕ) (i v : ℕ) → IsSound w → ids ≡ array_numbers w → slice_get ids i ≡ Some v → IsLive w v
 live_at laws w ids i v sound is at = (found_at laws w ids i v sound is at).0
 
 -- one that has a parent has a transformation
-pub has_trans : Laws → (w : World) (ids : List ℕ) (i v p : ℕ) → IsSound w → ids ≡ numbers_in w → slice_get ids i ≡ Some v
+pub has_trans : Laws → (w : World) (ids : List ℕ) (i v p : ℕ) → IsSound w → ids ≡ array_numbers w → slice_get ids i ≡ Some v
     → Some p ≡ parent_in w v → IsSome (trans_in w v)
 has_trans laws w ids i v p sound is at parent = by_def (array_at w i).1 (found_at laws w ids i v sound is at).1
   where
@@ -52,7 +52,7 @@ has_trans laws w ids i v p sound is at parent = by_def (array_at w i).1 (found_a
     by_def (view q t) looks = subst (λ (o : Option Trans). IsSome o) (sym looks.1) refl
 
 -- the lines of a view are those of the array at its place
-pub wrote_view : Laws → (w : World) (ids : List ℕ) (i v p at : ℕ) (old new : Image) (r : Result (Unit {0}) ScopeFault) → IsSound w → ids ≡ numbers_in w
+pub wrote_view : Laws → (w : World) (ids : List ℕ) (i v p at : ℕ) (old new : Image) (r : Result (Unit {0}) ScopeFault) → IsSound w → ids ≡ array_numbers w
     → slice_get ids i ≡ Some v → Some p ≡ parent_in w v → at ≡ place_from ids p 0
     → ((t : Trans) → trans_in w v ≡ Some t
     → WritesLines old new 1 (view_lines (name_at old.stem i) (name_at old.stem at) (index_name old.stem) t) r)
@@ -68,7 +68,7 @@ wrote_view laws w ids i v p at old new r sound is here parent place wrote = by_d
         subst (λ (n : ℕ). WritesLines old new 1 (view_lines (name_at old.stem i) (name_at old.stem n) (index_name old.stem) t) r) same (wrote t looks.1)
 
 -- so are those of a root
-pub wrote_root : Laws → (w : World) (ids : List ℕ) (i v : ℕ) (old new : Image) (r : Result (Unit {0}) ScopeFault) → IsSound w → ids ≡ numbers_in w
+pub wrote_root : Laws → (w : World) (ids : List ℕ) (i v : ℕ) (old new : Image) (r : Result (Unit {0}) ScopeFault) → IsSound w → ids ≡ array_numbers w
     → slice_get ids i ≡ Some v → None ≡ parent_in w v
     → WritesLines old new 1 (root_lines (name_at old.stem i) (ty_in w v) (dims_in w v) (elements w v)) r
     → WritesLines old new 1 (lines_at old.stem w i) r
@@ -102,7 +102,7 @@ abbrev Written : (old now : Image) → World → ℕ → Type 0
 Written old now w i = WritesLines old now i (world_lines old.stem (renumber (oldest i w))) (Ok tt)
 
 -- the lines of the next one, behind those of the older ones
-next_behind : LinesJoin → LiveLieBelow → (w now : World) (ids : List ℕ) (i : ℕ) (old mid new : Image) (r : Result (Unit {0}) ScopeFault) → IsSound w → ids ≡ numbers_in w → now ≡ w
+next_behind : LinesJoin → LiveLieBelow → (w now : World) (ids : List ℕ) (i : ℕ) (old mid new : Image) (r : Result (Unit {0}) ScopeFault) → IsSound w → ids ≡ array_numbers w → now ≡ w
     → i < length ids → Written old mid w i → WritesLines mid new 1 (lines_at mid.stem now i) r
     → WritesLines old new (i + 1) (world_lines old.stem (renumber (oldest (i + 1) w))) r
 next_behind join lie w now ids i old mid new r sound is still low first second =
@@ -113,7 +113,7 @@ next_behind join lie w now ids i old mid new r sound is still low first second =
     subst (λ (ls : List Line). WritesLines old new (i + 1) ls r) (sym (lines_next lie old.stem w i sound below))
     (writes_then join old mid new i 1 (world_lines old.stem (renumber (oldest i w))) (lines_at old.stem w i) tt r first here)
 
-pub next_written : LinesJoin → LiveLieBelow → (w now : World) (ids : List ℕ) (i : ℕ) (old mid new : Image) (u : Unit {0}) → IsSound w → ids ≡ numbers_in w → now ≡ w
+pub next_written : LinesJoin → LiveLieBelow → (w now : World) (ids : List ℕ) (i : ℕ) (old mid new : Image) (u : Unit {0}) → IsSound w → ids ≡ array_numbers w → now ≡ w
     → i < length ids → Written old mid w i → WritesLines mid new 1 (lines_at mid.stem now i) (Ok u) → Written old new w (i + 1)
 next_written join lie w now ids i old mid new u sound is still low first second =
     next_behind join lie w now ids i old mid new (Ok tt) sound is still low first second
@@ -137,7 +137,7 @@ all_refused join ((k, d) ∷ w) i a b stem old new e h =
     fewer : nat_lt (length w) i ≡ false → oldest i ((k, d) ∷ w) ≡ oldest i w
     fewer is = rw is refl
 
-pub next_refused : LinesJoin → LiveLieBelow → (w now : World) (ids : List ℕ) (i : ℕ) (old mid new : Image) (e : ScopeFault) (r : Result (Unit {0}) ScopeFault) → IsSound w → ids ≡ numbers_in w
+pub next_refused : LinesJoin → LiveLieBelow → (w now : World) (ids : List ℕ) (i : ℕ) (old mid new : Image) (e : ScopeFault) (r : Result (Unit {0}) ScopeFault) → IsSound w → ids ≡ array_numbers w
     → now ≡ w → i < length ids → Written old mid w i → WritesLines mid new 1 (lines_at mid.stem now i) (Err e) → IsErrAnd r (λ f. f ≡ e)
     → WritesLines old new (length w) (world_lines old.stem (renumber w)) r
 next_refused join lie w now ids i old mid new e (Ok x) sound is still low first second same = absurd same
@@ -146,7 +146,7 @@ next_refused join lie w now ids i old mid new e (Err f) sound is still low first
     (all_refused join w (i + 1) (i + 1) (length w) old.stem old new e (next_behind join lie w now ids i old mid new (Err e) sound is still low first second))
 
 -- all were written
-pub all_written : (w : World) (ids : List ℕ) (i : ℕ) (old new : Image) (u : Unit {0}) → ids ≡ numbers_in w → length ids ≤ i → i ≤ length ids → Written old new w i
+pub all_written : (w : World) (ids : List ℕ) (i : ℕ) (old new : Image) (u : Unit {0}) → ids ≡ array_numbers w → length ids ≤ i → i ≤ length ids → Written old new w i
     → WritesLines old new (length w) (world_lines old.stem (renumber w)) (Ok u)
 all_written w ids i old new u is past within h =
     let count : length ids ≡ length w = ap length is ∙ length-numbers w in

@@ -7,7 +7,7 @@ use Rattle.pdl_lemmas.specs.Tests.{by_test}
 use Rattle.pdl_world.specs.Paths.{parent_in}
 use Rattle.pdl_world.specs.Sound.{IsLive, IsSound}
 use Rattle.pdl_world.specs.World.{World, ArrayDef, root, view}
-use Rattle.pdl_engine.specs.Looks.{numbers_in}
+use Rattle.pdl_engine.specs.Looks.{array_numbers}
 use Rattle.pdl_engine.specs.Reading.{read_steps}
 use Rattle.pdl_engine.specs.State.{State as Engine}
 use Rattle.pdl_scope.specs.Costs.{ReadsNoDearer}
@@ -53,7 +53,7 @@ none_dearer e t (k, root ty ds es) costs live = costs k live
 none_dearer e t (k, view p x) costs live = omega arith
 
 -- one array more
-pub dumped_more : Laws → (e t : Engine) (ids : List ℕ) (i before now after : ℕ) → IsSound e.world → ids ≡ numbers_in e.world → t.world ≡ e.world → i < length ids → ReadsNoDearer e t
+pub dumped_more : Laws → (e t : Engine) (ids : List ℕ) (i before now after : ℕ) → IsSound e.world → ids ≡ array_numbers e.world → t.world ≡ e.world → i < length ids → ReadsNoDearer e t
     → now ≤ before + sum_by (dump_steps e) (oldest i e.world) → after ≤ now + dump_steps t (array_at t.world i) → after ≤ before + sum_by (dump_steps e) (oldest (i + 1) e.world)
 dumped_more laws e t ids i before now after sound is same low costs so_far next =
     let below : i < length e.world = subst (λ (n : ℕ). i < n) (ap length is ∙ length-numbers e.world) low in
@@ -63,7 +63,7 @@ dumped_more laws e t ids i before now after sound is same low costs so_far next 
     omega (arith, so_far, next, there, less, sum)
 
 -- a root takes the steps that it takes to read it
-pub root_read : Laws → (e : Engine) (ids : List ℕ) (i v : ℕ) → IsSound e.world → ids ≡ numbers_in e.world → slice_get ids i ≡ Some v → None ≡ parent_in e.world v
+pub root_read : Laws → (e : Engine) (ids : List ℕ) (i v : ℕ) → IsSound e.world → ids ≡ array_numbers e.world → slice_get ids i ≡ Some v → None ≡ parent_in e.world v
     → dump_steps e (array_at e.world i) ≡ read_steps e v
 root_read laws e ids i v sound is here parent =
     by_pair (array_at e.world i) (number_at e.world ids i v is here) (found_at laws e.world ids i v sound is here).1

@@ -16,7 +16,7 @@ use Rattle.pdl_image.specs.Dump.{definition_line, is_too_long, name_line, undef_
 use Rattle.pdl_image.specs.Stems.{name_at, stem_in, stem_of, taken}
 use Rattle.pdl_world.specs.Sound.{IsSound}
 use Rattle.pdl_world.specs.World.{World}
-use Rattle.pdl_engine.specs.Looks.{numbers_in}
+use Rattle.pdl_engine.specs.Looks.{array_numbers}
 use Rattle.pdl_machine.specs.Dumps.{definition, dump_lines, dumped, lines_of, names_wanted, text_within}
 use Rattle.pdl_machine.specs.Names.{KernelTexts, Named, names_limit}
 use Rattle.pdl_machine.specs.State.{State}
@@ -171,7 +171,7 @@ length-renumber : (w : World) → length (renumber w) ≡ length w
 length-renumber [] = refl
 length-renumber ((k, d) ∷ w) = ap suc (length-renumber w)
 
-names_same : (stem : List ℕ) (w : World) → IsSound w → (names : Named ℕ) → name_lines stem (numbers_in w) names ≡ map (name_line stem) (renumbered (older w) names)
+names_same : (stem : List ℕ) (w : World) → IsSound w → (names : Named ℕ) → name_lines stem (array_numbers w) names ≡ map (name_line stem) (renumbered (older w) names)
 names_same stem w sound [] = refl
 names_same stem w sound (n ∷ names) =
     ap₂ (λ (k : ℕ) (ls : List Line). same_line n.0 (name_at stem k) ∷ ls) (place_is w n.1 sound) (names_same stem w sound names)
@@ -182,7 +182,7 @@ kernels_same (k ∷ ks) = ap (λ (ls : List Line). definition_line (definition k
 
 -- the first parts of a dump with this stem, and all of it
 abbrev pub fronts : (stem : List ℕ) → Named KernelTexts → World → Named ℕ → List Line
-fronts stem kernels w names = (kernel_lines kernels ++ world_lines stem (renumber w)) ++ name_lines stem (numbers_in w) names
+fronts stem kernels w names = (kernel_lines kernels ++ world_lines stem (renumber w)) ++ name_lines stem (array_numbers w) names
 
 abbrev pub stem_for : Named ℕ → List ℕ
 stem_for names = stem_of (map (λ n. n.0) names)
@@ -195,7 +195,7 @@ lines_are kernels w names sound =
     let ns : Named ℕ = renumbered (older w) names in
     let stem : List ℕ = stem_for names in
     let wl : List Line = world_lines stem (renumber w) in
-    let nl : List Line = name_lines stem (numbers_in w) names in
+    let nl : List Line = name_lines stem (array_numbers w) names in
     let ul : List Line = undef_lines stem (length w) in
     ap (λ (ls : List Line). ls ++ (world_lines (stem_of (map (λ n. n.0) ns)) (renumber w) ++ (map (name_line (stem_of (map (λ n. n.0) ns))) ns ++ undef_lines (stem_of (map (λ n. n.0) ns)) (length (renumber w))))) (kernels_same kernels)
     ∙ ap (λ t. kl ++ (world_lines t (renumber w) ++ (map (name_line t) ns ++ undef_lines t (length (renumber w))))) (ap stem_of (names_keep (older w) names))
@@ -229,7 +229,7 @@ kernels_refused join kernels w names m new e sound is h =
     let stem : List ℕ = stem_for names in
     let first : WritesLines (blank stem) new 0 (kernel_lines kernels) (Err e) = subst (λ (i : Image). WritesLines i new 0 (kernel_lines kernels) (Err e)) is h in
     fronts_refused join kernels w names new 0 e sound
-    (writes_first join (blank stem) new new 0 0 (kernel_lines kernels ++ world_lines stem (renumber w)) (name_lines stem (numbers_in w) names) e
+    (writes_first join (blank stem) new new 0 0 (kernel_lines kernels ++ world_lines stem (renumber w)) (name_lines stem (array_numbers w) names) e
     (writes_first join (blank stem) new new 0 0 (kernel_lines kernels) (world_lines stem (renumber w)) e first))
 
 -- kernels and arrays, behind each other
@@ -248,30 +248,30 @@ pub arrays_refused : LinesJoin → (kernels : Named KernelTexts) (w : World) (na
 arrays_refused join kernels w names m mid new u e sound is first second =
     let stem : List ℕ = stem_for names in
     fronts_refused join kernels w names new 0 e sound
-    (writes_first join (blank stem) new new (0 + length w) 0 (kernel_lines kernels ++ world_lines stem (renumber w)) (name_lines stem (numbers_in w) names) e
+    (writes_first join (blank stem) new new (0 + length w) 0 (kernel_lines kernels ++ world_lines stem (renumber w)) (name_lines stem (array_numbers w) names) e
     (arrays_behind join kernels w names m mid new u (Err e) is first second))
 
 -- and names behind them
 names_behind : LinesJoin → (kernels : Named KernelTexts) (w : World) (names : Named ℕ) (m mid next new : Image) (u v : Unit {0}) (r : Result (Unit {0}) ScopeFault) → m ≡ blank (stem_for names)
     → WritesLines m mid 0 (kernel_lines kernels) (Ok u) → WritesLines mid next (length w) (world_lines mid.stem (renumber w)) (Ok v)
-    → WritesLines next new 0 (name_lines next.stem (numbers_in w) names) r → WritesLines (blank (stem_for names)) new (0 + length w + 0) (fronts (stem_for names) kernels w names) r
+    → WritesLines next new 0 (name_lines next.stem (array_numbers w) names) r → WritesLines (blank (stem_for names)) new (0 + length w + 0) (fronts (stem_for names) kernels w names) r
 names_behind join kernels w names m mid next new u v r is first second third =
     let stem : List ℕ = stem_for names in
     let begun = arrays_behind join kernels w names m mid next u (Ok v) is first second in
     let same : next.stem ≡ stem = ap (λ (i : Image). i.stem) begun.0 in
-    writes_then join (blank stem) next new (0 + length w) 0 (kernel_lines kernels ++ world_lines stem (renumber w)) (name_lines stem (numbers_in w) names) v r begun
-    (subst (λ (t : List ℕ). WritesLines next new 0 (name_lines t (numbers_in w) names) r) same third)
+    writes_then join (blank stem) next new (0 + length w) 0 (kernel_lines kernels ++ world_lines stem (renumber w)) (name_lines stem (array_numbers w) names) v r begun
+    (subst (λ (t : List ℕ). WritesLines next new 0 (name_lines t (array_numbers w) names) r) same third)
 
 pub names_refused : LinesJoin → (kernels : Named KernelTexts) (w : World) (names : Named ℕ) (m mid next new : Image) (u v : Unit {0}) (e : ScopeFault) → IsSound w → m ≡ blank (stem_for names)
     → WritesLines m mid 0 (kernel_lines kernels) (Ok u) → WritesLines mid next (length w) (world_lines mid.stem (renumber w)) (Ok v)
-    → WritesLines next new 0 (name_lines next.stem (numbers_in w) names) (Err e) → Parts kernels w names e
+    → WritesLines next new 0 (name_lines next.stem (array_numbers w) names) (Err e) → Parts kernels w names e
 names_refused join kernels w names m mid next new u v e sound is first second third =
     fronts_refused join kernels w names new (0 + length w + 0) e sound (names_behind join kernels w names m mid next new u v (Err e) is first second third)
 
 -- the ends of the arrays' names, behind all
 ends_behind : LinesJoin → (kernels : Named KernelTexts) (w : World) (names : Named ℕ) (m mid next last : Image) (u v x : Unit {0}) → m ≡ blank (stem_for names)
     → WritesLines m mid 0 (kernel_lines kernels) (Ok u) → WritesLines mid next (length w) (world_lines mid.stem (renumber w)) (Ok v)
-    → WritesLines next last 0 (name_lines next.stem (numbers_in w) names) (Ok x)
+    → WritesLines next last 0 (name_lines next.stem (array_numbers w) names) (Ok x)
     → (last.text ≡ script_of (fronts (stem_for names) kernels w names)) × (is_too_long [] (fronts (stem_for names) kernels w names) ≡ false)
     × (undef_lines last.stem last.arrays ≡ undef_lines (stem_for names) (length w))
 ends_behind join kernels w names m mid next last u v x is first second third =
@@ -286,7 +286,7 @@ ends_behind join kernels w names m mid next last u v x is first second third =
 
 pub ends_refused : LinesJoin → (kernels : Named KernelTexts) (w : World) (names : Named ℕ) (m mid next last : Image) (u v x : Unit {0}) (why : ImageFault) (e : ScopeFault) → IsSound w → m ≡ blank (stem_for names)
     → WritesLines m mid 0 (kernel_lines kernels) (Ok u) → WritesLines mid next (length w) (world_lines mid.stem (renumber w)) (Ok v)
-    → WritesLines next last 0 (name_lines next.stem (numbers_in w) names) (Ok x)
+    → WritesLines next last 0 (name_lines next.stem (array_numbers w) names) (Ok x)
     → (why ≡ image.TooLong → is_too_long last.text (undef_lines last.stem last.arrays) ≡ true) → e ≡ of_image why → Parts kernels w names e
 ends_refused join kernels w names m mid next last u v x image.NoMemory e sound is first second third refused why =
     subst (λ (f : ScopeFault). Parts kernels w names f) (sym why) tt
@@ -302,7 +302,7 @@ ends_refused join kernels w names m mid next last u v x image.TooLong e sound is
 -- all was written
 pub dump_written : LinesJoin → (kernels : Named KernelTexts) (w : World) (names : Named ℕ) (m mid next last : Image) (u v x : Unit {0}) (bytes : List ℕ) → IsSound w → m ≡ blank (stem_for names)
     → WritesLines m mid 0 (kernel_lines kernels) (Ok u) → WritesLines mid next (length w) (world_lines mid.stem (renumber w)) (Ok v)
-    → WritesLines next last 0 (name_lines next.stem (numbers_in w) names) (Ok x)
+    → WritesLines next last 0 (name_lines next.stem (array_numbers w) names) (Ok x)
     → bytes ≡ last.text ++ script_of (undef_lines last.stem last.arrays) → is_too_long last.text (undef_lines last.stem last.arrays) ≡ false → text_within (lines_of kernels w names) ≡ Ok bytes
 dump_written join kernels w names m mid next last u v x bytes sound is first second third text fits =
     let front : List Line = fronts (stem_for names) kernels w names in

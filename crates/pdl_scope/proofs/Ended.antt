@@ -12,12 +12,12 @@ use Rattle.pdl_world.specs.Swept.{is_listed}
 use Rattle.pdl_world.specs.World.{World}
 use Rattle.pdl_engine.specs.Held.{count_at}
 use Rattle.pdl_engine.specs.State.{State as Engine}
-use Rattle.pdl_machine.specs.Flows.{Flow, Flows, all_read, is_flow, without_flow}
+use Rattle.pdl_machine.specs.Flows.{Flow, Flows, all_read, flows_with, is_flow, without_flow}
 use Rattle.pdl_machine.specs.Following.{AreFlows, RootsAbove}
 use Rattle.pdl_machine.specs.Names.{Names}
 use Rattle.pdl_machine.specs.State.{AreLive}
 use Rattle.pdl_machine.specs.Watches.{Watches}
-use Rattle.pdl_scope.specs.Flowing.{RootsRise, flows_with, read_by}
+use Rattle.pdl_scope.specs.Flowing.{RootsRise, read_by}
 use Rattle.pdl_scope.specs.Holding.{AreHeld, SameButHolds}
 use Rattle.pdl_scope.specs.LetGo.{without_at}
 use Rattle.pdl_scope.specs.Scope.{arrays_of, reads_limit, state_in, times, IsHeld}

@@ -1,14 +1,12 @@
 -- Flows where what they read shows the same, and their roots are seen as before.
-use Rattle.std.proofs.Common.{◌≡◌, ℕ, ℤ, zero, suc, ◌<◌, List, [], ◌∷◌, ◌++◌, length, get_or, true, false, Option, Result, Ok, inl, inr, refl, sym, ap, subst, ◌∙◌, arith, eqb-true, eq-eqb}
+use Rattle.std.proofs.Common.{◌≡◌, ℕ, ℤ, zero, suc, ◌<◌, List, [], ◌∷◌, ◌++◌, length, get_or, true, false, Option, inl, inr, refl, sym, ap, subst, ◌∙◌, arith, eqb-true, eq-eqb}
 use Rattle.std.specs.Prelude.{◌==◌, ◌||◌, ◌⊎◌, All, IsSomeAnd}
 use Rattle.std.specs.Option.{option_map_or}
 use Rattle.pdl_lemmas.specs.Tests.{by_test}
 use Rattle.pdl_elem.specs.declared.Ty.{Ty}
 use Rattle.pdl_elem.specs.declared.Ty.TheVariants.{Byte}
 use Rattle.pdl_buf.specs.declared.made.Made.{Made}
-use Rattle.pdl_ops.specs.Elementwise.{OpRefusal}
 use Rattle.pdl_flow.specs.Formula.{arrays_in}
-use Rattle.pdl_flow.specs.Laws.{MeaningLaws}
 use Rattle.pdl_world.specs.World.{World, ArrayDef, Look}
 use Rattle.pdl_world.specs.BreakLaws.{ReshapesLeaveOthers}
 use Rattle.pdl_world.specs.Cut.{sever, reshape}
@@ -20,6 +18,7 @@ use Rattle.pdl_world.specs.SweepLaws.{IsSeenAsBefore}
 use Rattle.pdl_world.specs.Swept.{is_listed}
 use Rattle.pdl_machine.specs.Arrays.{Arrays, array_in}
 use Rattle.pdl_machine.specs.Cuts.{is_read}
+use Rattle.pdl_machine.specs.FlowLaws.{FlowsStay}
 use Rattle.pdl_machine.specs.Flows.{Flow, Flows, all_read, is_flow, is_reached, without_flow}
 use Rattle.pdl_machine.specs.Following.{AreFlows, AreOlder, IsFlow, RootsAbove}
 use Rattle.pdl_machine.specs.State.{AreLive}
@@ -84,11 +83,8 @@ seen_shows w u k h = record {
 pub seen_live : (w u : World) (k : ℕ) → IsSeenAsBefore w u k → IsLive w k → IsLive u k
 seen_live w u k h live = let P : Option Look → Type 0 = λ o. IsSomeAnd o (λ l. Unit {0}) in subst P (sym h.look_is) live
 
--- an array shows what it showed, and is there
-abbrev pub IsShown : (w u : World) → ℕ → Type 0
-IsShown w u k = ShowsTheSame w u k × IsLive u k
-
-pub seen_shown : (w u : World) (k : ℕ) → IsSeenAsBefore w u k → IsLive w k → IsShown w u k
+-- it shows what it showed, and is there
+pub seen_shown : (w u : World) (k : ℕ) → IsSeenAsBefore w u k → IsLive w k → ShowsTheSame w u k × IsLive u k
 seen_shown w u k h live = (seen_shows w u k h, seen_live w u k h live)
 
 -- what a formula reads is older than its root, and there
@@ -97,24 +93,6 @@ older_is w r [] k older h = cc
 older_is w r (j ∷ ks) k older h = by_test (j == k)
     (λ same. let P : ℕ → Type 0 = λ n. (n < r) × IsLive w n in subst P (eqb-true j k same) (older.0, older.1))
     (λ other. older_is w r ks k older.2 (rw other at h))
-
-older_shown : (w u : World) (r : ℕ) (ks : List ℕ) → AreOlder w r ks → ((k : ℕ) → is_listed ks k ≡ true → IsLive u k) → AreOlder u r ks
-older_shown w u r [] older there = tt
-older_shown w u r (k ∷ ks) older there =
-    (older.0, there k (first_listed k ks), older_shown w u r ks older.2 (λ j t. there j (later_listed k j ks t)))
-
-abbrev value_is : Made → Result Made OpRefusal
-value_is m = Ok m
-
-pub flow_moved : MeaningLaws → (a b : Arrays) (f : Flow) → IsFlow a f → ((k : ℕ) → is_listed (arrays_in f.formula) k ≡ true → IsShown a.world b.world k) → IsSeenAsBefore a.world b.world f.root → IsFlow b f
-flow_moved laws a b f h shown root_seen = record {
-  seen = h.seen;
-  is_root = record { look_is = root_seen.look_is ∙ h.is_root.look_is; path_is = root_seen.path_is ∙ h.is_root.path_is };
-  is_formula = h.is_formula;
-  older = older_shown a.world b.world f.root (arrays_in f.formula) h.older (λ k t. (shown k t).1);
-  equals = laws.same (array_in b) (array_in a) f.formula (each_at (λ k. array_in b k ≡ array_in a k) (arrays_in f.formula) (λ k t. shown_same a b k (shown k t).0))
-      ∙ h.equals ∙ ap value_is (sym (shown_same a b f.root (seen_shows a.world b.world f.root root_seen)));
-}
 
 pub flow_live : (a : Arrays) (f : Flow) → IsFlow a f → IsLive a.world f.root
 flow_live a f h = let P : Option Look → Type 0 = λ o. IsSomeAnd o (λ l. Unit {0}) in subst P (sym h.is_root.look_is) tt
@@ -125,28 +103,13 @@ flow_root a f h = ap (λ (o : Option Look). option_map_or (λ l. l.root) o f.roo
 
 -- ---- all flows
 
--- by what holds of each array that is read, and of each root
-pub flows_moved : MeaningLaws → (a b : Arrays) (flows : Flows) → AreFlows a flows
-    → ((k : ℕ) → is_listed (all_read flows) k ≡ true → IsLive a.world k → IsShown a.world b.world k)
-    → ((f : Flow) → is_flow flows f.root ≡ true → IsFlow a f → IsSeenAsBefore a.world b.world f.root) → AreFlows b flows
-flows_moved laws a b [] h reads roots = tt
-flows_moved laws a b (f ∷ flows) h reads roots =
-    let ks : List ℕ = arrays_in f.formula in
-    let self : (f.root == f.root) ≡ true = eq-eqb f.root f.root refl in
-    let here : is_flow (f ∷ flows) f.root ≡ true = rw self refl in (
-      flow_moved laws a b f h.0 (λ k t. reads k (listed_front ks (all_read flows) k t) (older_is a.world f.root ks k h.0.older t).1) (roots f here h.0),
-      h.1,
-      flows_moved laws a b flows h.2 (λ k t live. reads k (listed_back ks (all_read flows) k t) live) (λ g t is. roots g (by_test (f.root == g.root) (λ same. rw same refl) (λ other. rw other t)) is),
-    )
-
 -- where all that is there is seen as before
-pub flows_stay : MeaningLaws → (a b : Arrays) (flows : Flows) → AreFlows a flows → ((k : ℕ) → IsLive a.world k → IsSeenAsBefore a.world b.world k) → AreFlows b flows
-flows_stay laws a b flows h seen =
-    flows_moved laws a b flows h (λ k t live. seen_shown a.world b.world k (seen k live) live) (λ f t is. seen f.root (flow_live a f is))
+pub flows_stay : FlowsStay → (a b : Arrays) (flows : Flows) → AreFlows a flows → ((k : ℕ) → IsLive a.world k → IsSeenAsBefore a.world b.world k) → AreFlows b flows
+flows_stay stay a b flows h seen = stay a b flows h (λ k t live. seen_shown a.world b.world k (seen k live) live) (λ r t live own. seen r live)
 
 -- the laws of flows where arrays come
 pub record GrowthLaws : Type 0 where
-  pub meaning : MeaningLaws
+  pub stay : FlowsStay
   pub older : OlderStay
   pub elements : OlderElementsStay
   pub paths : OlderPathsStay
@@ -156,7 +119,7 @@ older_seen laws w k d v below live = record { look_is = laws.older w k v d below
 
 pub flows_joined : GrowthLaws → (a b : Arrays) (k : ℕ) (d : ArrayDef) (flows : Flows) → NumbersBelow k a.world → b.world ≡ (k, d) ∷ a.world → AreFlows a flows → AreFlows b flows
 flows_joined laws a b k d flows below is h =
-    flows_stay laws.meaning a b flows h (λ v live. let P : World → Type 0 = λ u. IsSeenAsBefore a.world u v in subst P (sym is) (older_seen laws a.world k d v below live))
+    flows_stay laws.stay a b flows h (λ v live. let P : World → Type 0 = λ u. IsSeenAsBefore a.world u v in subst P (sym is) (older_seen laws a.world k d v below live))
 
 -- the arrays that formulas read are there
 pub reads_live : (a : Arrays) (flows : Flows) → AreFlows a flows → AreLive a.world (all_read flows)
@@ -201,14 +164,14 @@ flow_apart : (flows : Flows) (r v : ℕ) → is_flow flows r ≡ true → is_flo
 flow_apart flows r v here none = by_test (r == v) (λ same. let e : r ≡ v = eqb-true r v same in let t : is_flow flows v ≡ true = ap (is_flow flows) (sym e) ∙ here in cc) (λ other. other)
 
 -- another array isn't on the path of a flow's root
-root_apart : (a : Arrays) (flows : Flows) (f : Flow) (v : ℕ) → is_flow flows v ≡ false → is_flow flows f.root ≡ true → IsFlow a f → is_listed (path a.world f.root) v ≡ false
-root_apart a flows f v none here is =
-    let other : (f.root == v) ≡ false = flow_apart flows f.root v here none in
-    ap (λ (ps : List ℕ). is_listed ps v) is.is_root.path_is ∙ ap (λ b. b || false) other
+root_apart : (w : World) (flows : Flows) (r v : ℕ) → is_flow flows v ≡ false → is_flow flows r ≡ true → path w r ≡ r ∷ [] → is_listed (path w r) v ≡ false
+root_apart w flows r v none here own =
+    let other : (r == v) ≡ false = flow_apart flows r v here none in
+    ap (λ (ps : List ℕ). is_listed ps v) own ∙ ap (λ b. b || false) other
 
 -- the laws of flows where an array is cut
 pub record CutLaws : Type 0 where
-  pub meaning : MeaningLaws
+  pub stay : FlowsStay
   pub shown : CutsLeaveElements
   pub numbers : CutsLeaveNumbers
   pub others : CutsLeaveOthers
@@ -228,13 +191,13 @@ flows_severed laws a b v flows sound is h = by_test (is_flow flows v) own other
         let f = found_flow a flows v h here in
         let root : root_of w v ≡ v = ap (root_of w) (sym f.root) ∙ flow_root a f.flow f.is ∙ f.root in
         let same : b.world ≡ w = is ∙ laws.uncut w v sound root in
-        flows_stay laws.meaning a b flows h (λ k live. (let P : World → Type 0 = λ u. IsSeenAsBefore w u k in subst P (sym same) (record { look_is = refl; elems_are = refl; path_is = refl })))
+        flows_stay laws.stay a b flows h (λ k live. (let P : World → Type 0 = λ u. IsSeenAsBefore w u k in subst P (sym same) (record { look_is = refl; elems_are = refl; path_is = refl })))
 
     other : is_flow flows v ≡ false → AreFlows b flows
     other none =
-        flows_moved laws.meaning a b flows h
-        (λ k t live. (let P : World → Type 0 = λ u. IsShown w u k in subst P (sym is) (laws.shown w v k sound, (laws.numbers w v sound).live k live)))
-        (λ f t f_is. seen_in f.root (laws.others w v f.root sound (root_apart a flows f v none t f_is)))
+        laws.stay a b flows h
+        (λ k t live. (let P : World → Type 0 = λ u. ShowsTheSame w u k × IsLive u k in subst P (sym is) (laws.shown w v k sound, (laws.numbers w v sound).live k live)))
+        (λ r t live own. seen_in r (laws.others w v r sound (root_apart w flows r v none t own)))
 
 -- ---- where an array gets other dimensions
 
@@ -247,12 +210,12 @@ unread_apart w (j ∷ ks) v k none t = by_test (is_listed (path w j) v)
     (λ same. ap (λ n. is_listed (path w n) v) (sym (eqb-true j k same)) ∙ off)
     (λ other. unread_apart w ks v k (rw off at none) (rw other at t)))
 
-pub flows_reshaped : MeaningLaws → ReshapesLeaveOthers → (a b : Arrays) (v : ℕ) (ds : List ℕ) (flows : Flows) → IsSound a.world → b.world ≡ reshape a.world v ds
+pub flows_reshaped : FlowsStay → ReshapesLeaveOthers → (a b : Arrays) (v : ℕ) (ds : List ℕ) (flows : Flows) → IsSound a.world → b.world ≡ reshape a.world v ds
     → is_flow flows v ≡ false → is_read flows a.world v ≡ false → AreFlows a flows → AreFlows b flows
-flows_reshaped laws others a b v ds flows sound is none unread h =
-    flows_moved laws a b flows h
+flows_reshaped stay others a b v ds flows sound is none unread h =
+    stay a b flows h
     (λ k t live. seen_shown w b.world k (seen k (unread_apart w (all_read flows) v k unread t)) live)
-    (λ f t f_is. seen f.root (root_apart a flows f v none t f_is))
+    (λ r t live own. seen r (root_apart w flows r v none t own))
   where
     w : World
     w = a.world

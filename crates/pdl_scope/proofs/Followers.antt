@@ -29,41 +29,13 @@ use Rattle.pdl_machine.specs.DumpableLaws.{ShownAreMade}
 use Rattle.pdl_machine.specs.Flows.{Flow, Flows, is_flow, reads_from, affected}
 use Rattle.pdl_machine.specs.Following.{given, follow, AreOlder, IsFlow, RootsAbove, AreFlows}
 use Rattle.pdl_machine.specs.State.{AreLive}
-use Rattle.pdl_scope.specs.Plans.{input_at, roots_in}
-use Rattle.pdl_scope.specs.declared.following.Change.{Change}
+use Rattle.pdl_scope.specs.Plans.{input_at}
 
 -- ---- which flows follow
-
-any_or : {A : Type 0} (p q : A → Bool) (xs : List A) → list_any (λ x. p x || q x) xs ≡ (list_any p xs || list_any q xs)
-any_or p q [] = refl
-any_or p q (x ∷ xs) = mixed (p x) (q x) (list_any p xs) (list_any q xs) (list_any (λ y. p y || q y) xs) (any_or p q xs)
-  where
-    mixed : (a b c d e : Bool) → e ≡ (c || d) → ((a || b) || e) ≡ ((a || c) || (b || d))
-    mixed true b c d e is = refl
-    mixed false true true d e is = refl
-    mixed false true false d e is = refl
-    mixed false false c d e is = is
 
 any_same : {A : Type 0} (p q : A → Bool) → ((x : A) → p x ≡ q x) → (xs : List A) → list_any p xs ≡ list_any q xs
 any_same p q same [] = refl
 any_same p q same (x ∷ xs) = ap (λ b. b || list_any p xs) (same x) ∙ ap (λ b. q x || b) (any_same p q same xs)
-
-or_none : (b : Bool) → (b || false) ≡ b
-or_none true = refl
-or_none false = refl
-
--- a formula reads from several roots where it reads from the first, or from another one
-pub reads_more : (w : World) (f : Flow) (r : ℕ) (rs : List ℕ) → reads_from w f (r ∷ rs) ≡ (reads_from w f (r ∷ []) || reads_from w f rs)
-reads_more w f r rs =
-    any_same (λ k. is_listed (r ∷ rs) (root_of w k)) (λ k. is_listed (r ∷ []) (root_of w k) || is_listed rs (root_of w k)) (λ k. ap (λ b. b || is_listed rs (root_of w k)) (sym (or_none (r == root_of w k)))) (arrays_in f.formula)
-    ∙ any_or (λ k. is_listed (r ∷ []) (root_of w k)) (λ k. is_listed rs (root_of w k)) (arrays_in f.formula)
-
-pub reads_none : (w : World) (f : Flow) → reads_from w f [] ≡ false
-reads_none w f = none (arrays_in f.formula)
-  where
-    none : (ks : List ℕ) → list_any (λ k. is_listed [] (root_of w k)) ks ≡ false
-    none [] = refl
-    none (k ∷ ks) = none ks
 
 reads_same : (w u : World) (f : Flow) (rs qs : List ℕ) → ((k : ℕ) → root_of w k ≡ root_of u k) → ((r : ℕ) → is_listed rs r ≡ is_listed qs r) → reads_from w f rs ≡ reads_from u f qs
 reads_same w u f rs qs roots same =
@@ -223,13 +195,6 @@ follows_by b f m es is same = ap (given b f.root) is ∙ ap (λ (xs : List ℤ).
   where
     assigned_to : List ℤ → Arrays
     assigned_to xs = record b { world = assign b.world f.root xs }
-
--- what a flow reads of what a plan alters, from one assignment on
-pub reads_next : (w : World) (f : Flow) (cs : List Change) (i : ℕ) (c : Change) → i < length cs → c ≡ get_or cs i c
-    → reads_from w f (roots_in (drop i cs)) ≡ (reads_from w f (c.root ∷ []) || reads_from w f (roots_in (drop (i + 1) cs)))
-reads_next w f cs i c lt is =
-    ap (λ (ds : List Change). reads_from w f (roots_in ds)) (drop_more cs i c lt ∙ ap (λ (d : Change). d ∷ drop (i + 1) cs) (sym is))
-    ∙ reads_more w f c.root (roots_in (drop (i + 1) cs))
 
 -- the elements of what the formula is are those of a value that the root can have
 pub made_at : (a b : Arrays) (f : Flow) (m : Made) (es : List ℤ) → IsFormed a b f (meaning (array_in b) f.formula) → meaning (array_in b) f.formula ≡ Ok m → IsArray m → es ≡ m.elems

@@ -128,7 +128,7 @@ all_live w (v ∷ vs) h =
     (h v (rw self (omega arith)), all_live w vs (λ u some. h u (by_test (v == u) (λ is. rw is (omega arith)) (λ other. rw other (omega arith)))))
 
 -- what is counted has holds
-counted_known : OthersDontCount → (hs : List (ℕ × ℕ)) (v : ℕ) → 0 < count_at hs v → is_listed (holders hs) v ≡ true
+pub counted_known : OthersDontCount → (hs : List (ℕ × ℕ)) (v : ℕ) → 0 < count_at hs v → is_listed (holders hs) v ≡ true
 counted_known others hs v some = by_test (is_listed (holders hs) v) (λ t. t) (λ f. absurd (let none = others hs v f in omega arith))
 
 -- a new array is noted

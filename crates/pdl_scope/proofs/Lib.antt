@@ -21,6 +21,8 @@ pub mod Dearer
 pub mod Newest
 pub mod Released
 pub mod Needed
+pub mod Leaving
+pub mod Halves
 pub mod Ended
 pub mod Begun
 pub mod Unmoved
@@ -31,3 +33,4 @@ pub mod Followers
 pub mod Planned
 pub mod PlannedFlows
 pub mod Flowed
+pub mod Inputs

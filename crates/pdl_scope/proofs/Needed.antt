@@ -1,62 +1,37 @@
 -- Which flows stay where arrays are let go, and what is there then.
-use Rattle.std.proofs.Common.{◌≡◌, ℕ, ℤ, zero, suc, ◌+◌, ◌<◌, ◌≤◌, List, [], ◌∷◌, ◌++◌, length, get_or, take, drop, append_assoc, Bool, true, false, Option, Some, None, inl, inr, refl, sym, ap, subst, ◌∙◌, arith, eqb-true, eq-eqb}
-use Rattle.std.specs.Prelude.{◌==◌, ◌||◌, ◌⊎◌, if◌then◌else◌, is_some, pos, slice_get}
+use Rattle.std.proofs.Common.{◌≡◌, ℕ, ◌+◌, ◌<◌, ◌≤◌, List, [], ◌∷◌, ◌++◌, length, get_or, take, drop, append_assoc, Bool, true, false, Some, inl, inr, refl, sym, ap, subst, ◌∙◌, arith, eqb-true, eq-eqb}
+use Rattle.std.specs.Prelude.{◌==◌, ◌⊎◌, if◌then◌else◌, is_some, pos, slice_get}
 use Rattle.std.proofs.lemmas.List.{append-nil, drop_all, drop_more, length-append, length-take-le, take-append-drop, take_all, take_more}
-use Rattle.std.proofs.lemmas.Option.{slice_get-get_or}
 use Rattle.std.proofs.Math.Seq.{drop-append-add, take-append_seam}
 use Rattle.pdl_lemmas.specs.Tests.{by_test}
 use Rattle.pdl_elem.specs.declared.Ty.TheVariants.{Byte}
 use Rattle.pdl_flow.specs.Formula.{arrays_in, number}
-use Rattle.pdl_flow.specs.Laws.{MeaningLaws}
 use Rattle.pdl_world.specs.BreakLaws.{BelowLaws}
 use Rattle.pdl_world.specs.KeepingLaws.{MoreKeepAll}
 use Rattle.pdl_world.specs.Paths.{path}
-use Rattle.pdl_world.specs.Sound.{IsSound, IsLive}
+use Rattle.pdl_world.specs.Sound.{IsSound}
 use Rattle.pdl_world.specs.SweepLaws.{IsSeenAsBefore, KeptWereReached, ReachedAreSeenAsBefore}
-use Rattle.pdl_world.specs.Swept.{is_listed, sweep, Has, IsReached, held_itself, parent_of, KeepsAll}
-use Rattle.pdl_world.specs.World.{World, ArrayDef, look, root, view}
+use Rattle.pdl_world.specs.Swept.{is_listed, sweep, IsReached, held_itself, parent_of}
+use Rattle.pdl_world.specs.World.{World, look, root}
 use Rattle.pdl_engine.specs.State.{State as Engine}
 use Rattle.pdl_machine.specs.Arrays.{Arrays}
-use Rattle.pdl_machine.specs.Flows.{Flow, Flows, all_read, is_flow, is_reached, Needs, needs_of, with_flow}
-use Rattle.pdl_machine.specs.Following.{AreFlows, AreOlder, IsFlow, RootsAbove}
-use Rattle.pdl_machine.specs.Laws.{LettingGoUnseen, SweepsByFewer}
-use Rattle.pdl_machine.specs.State.{State, held, kept, needs, with_world, AreLive}
-use Rattle.pdl_machine.specs.Tidy.{numbered, settled, tidy}
+use Rattle.pdl_machine.specs.Flows.{Flow, Flows, all_read, is_reached, Needs, needs_of, needs_with}
+use Rattle.pdl_machine.specs.Following.{AreFlows, IsFlow, RootsAbove}
+use Rattle.pdl_machine.specs.Laws.{PathsReach, SweepsByFewer}
+use Rattle.pdl_machine.specs.State.{AreLive}
 use Rattle.pdl_scope.specs.Holding.{LetsGo}
 use Rattle.pdl_scope.specs.LetGo.{HasFlows, KeepsNeeded, without_at}
 use Rattle.pdl_scope.specs.Scope.{arrays_of}
 use Rattle.pdl_scope.proofs.Bounds.{has_live}
-use Rattle.pdl_scope.proofs.FlowsStay.{first_listed, later_listed, listed_front, listed_back, listed_split, older_is, flow_live, flow_moved, seen_live, seen_shown}
+use Rattle.pdl_scope.proofs.FlowsStay.{first_listed, later_listed, listed_front, listed_back, listed_split, older_is, flow_live, seen_live}
 use Rattle.pdl_scope.proofs.Held.{all_gone, live_some, some_live}
 
 -- ---- what is reached
 
--- an array on the path of one that is reached is reached
-on_path_reached : (w u : World) (hs : List ℕ) (k v : ℕ) → ((j : ℕ) (d : ArrayDef) → Has u j d → Has w j d) → IsReached w hs k → is_listed (path u k) v ≡ true → IsReached w hs v
-on_path_reached w [] hs k v inside reached on = cc
-on_path_reached w ((j, d) ∷ u) hs k v inside reached on =
-    by_def d inside on (λ x r h. on_path_reached w u hs x v (λ i e there. inside i e (inr there)) r h)
-  where
-    itself : (j == k) ≡ true → (j == v) ≡ true → IsReached w hs v
-    itself same is = subst (λ n. IsReached w hs n) (sym (eqb-true j k same) ∙ eqb-true j v is) reached
-
-    by_def : (d : ArrayDef) → ((i : ℕ) (e : ArrayDef) → Has ((j, d) ∷ u) i e → Has w i e) → is_listed (path ((j, d) ∷ u) k) v ≡ true
-        → ((x : ℕ) → IsReached w hs x → is_listed (path u x) v ≡ true → IsReached w hs v) → IsReached w hs v
-    by_def (root ty ds es) within on rest = by_test (j == k)
-        (λ same. let h : is_listed (j ∷ []) v ≡ true = rw same at on in
-        by_test (j == v) (itself same) (λ apart. let f : is_listed (j ∷ []) v ≡ false = rw apart refl in cc))
-        (λ other. rest k reached (rw other at on))
-    by_def (view p t) within on rest = by_test (j == k)
-        (λ same. let h : is_listed (j ∷ path u p) v ≡ true = rw same at on in
-        by_test (j == v) (itself same) (λ apart. let t' : is_listed (path u p) v ≡ true = rw apart at h in
-        rest p (parent_of j p t (within j (view p t) (inl (refl, refl))) (subst (λ n. IsReached w hs n) (sym (eqb-true j k same)) reached)) t'))
-        (λ other. rest k reached (rw other at on))
-
-reached_is : (w : World) (many hs : List ℕ) (v : ℕ) → ((u : ℕ) → is_listed hs u ≡ true → is_listed many u ≡ true) → is_reached w hs v ≡ true → IsReached w many v
-reached_is w many [] v all_held on = cc
-reached_is w many (h ∷ hs) v all_held on = by_test (is_listed (path w h) v)
-    (λ here. on_path_reached w w many h v (λ i e there. there) (held_itself h (all_held h (first_listed h hs))) here)
-    (λ other. let t : is_reached w hs v ≡ true = rw other at on in reached_is w many hs v (λ u k. all_held u (later_listed h u hs k)) t)
+-- what is reached from these is reached from more
+reached_more : (w : World) (hs many : List ℕ) (v : ℕ) → ((u : ℕ) → is_listed hs u ≡ true → is_listed many u ≡ true) → IsReached w hs v → IsReached w many v
+reached_more w hs many v inside (held_itself k t) = held_itself k (inside k t)
+reached_more w hs many v inside (parent_of k p t there reached) = parent_of k p t there (reached_more w hs many k inside reached)
 
 -- what one of these reaches is reached
 reached_by : (w : World) (hs : List ℕ) (h v : ℕ) → is_listed hs h ≡ true → is_listed (path w h) v ≡ true → is_reached w hs v ≡ true
@@ -129,8 +104,8 @@ needs_held w (f ∷ flows) hs v t = by_stays (needs_held w flows hs v) (is_reach
     by_part rest (inl here) = listed_back hs (arrays_in f.formula ++ all_read n.flows) v (listed_front (arrays_in f.formula) (all_read n.flows) v here)
     by_part rest (inr there) = by_rest (listed_split hs (all_read n.flows) v (rest there))
 
-    by_stays : (is_listed n.arrays v ≡ true → is_listed (hs ++ all_read n.flows) v ≡ true) → (stays : Bool) → is_listed (with_flow stays f n).arrays v ≡ true
-        → is_listed (hs ++ all_read (with_flow stays f n).flows) v ≡ true
+    by_stays : (is_listed n.arrays v ≡ true → is_listed (hs ++ all_read n.flows) v ≡ true) → (stays : Bool) → is_listed (needs_with stays f n).arrays v ≡ true
+        → is_listed (hs ++ all_read (needs_with stays f n).flows) v ≡ true
     by_stays rest true h = by_part rest (listed_split (arrays_in f.formula) n.arrays v h)
     by_stays rest false h = rest h
 
@@ -152,31 +127,20 @@ held_needs w (f ∷ flows) hs v t = by_stays (held_needs w flows hs v) (is_reach
     by_part rest (inl own) = listed_back (arrays_in f.formula) n.arrays v (rest (listed_front hs (all_read n.flows) v own))
     by_part rest (inr read) = by_read rest (listed_split (arrays_in f.formula) (all_read n.flows) v read)
 
-    by_stays : (is_listed (hs ++ all_read n.flows) v ≡ true → is_listed n.arrays v ≡ true) → (stays : Bool) → is_listed (hs ++ all_read (with_flow stays f n).flows) v ≡ true
-        → is_listed (with_flow stays f n).arrays v ≡ true
+    by_stays : (is_listed (hs ++ all_read n.flows) v ≡ true → is_listed n.arrays v ≡ true) → (stays : Bool) → is_listed (hs ++ all_read (needs_with stays f n).flows) v ≡ true
+        → is_listed (needs_with stays f n).arrays v ≡ true
     by_stays rest true h = by_part rest (listed_split hs (arrays_in f.formula ++ all_read n.flows) v h)
     by_stays rest false h = rest h
 
--- the flows that stay need no more than they did
-needs_again : (w : World) (flows : Flows) (hs : List ℕ) → needs_of w (needs_of w flows hs).flows hs ≡ needs_of w flows hs
-needs_again w [] hs = refl
-needs_again w (f ∷ flows) hs = by_stays (needs_again w flows hs) (is_reached w (needs_of w flows hs).arrays f.root) refl
-  where
-    n : Needs
-    n = needs_of w flows hs
-
-    by_stays : needs_of w n.flows hs ≡ n → (stays : Bool) → is_reached w n.arrays f.root ≡ stays → needs_of w (with_flow stays f n).flows hs ≡ with_flow stays f n
-    by_stays rest false is = rest
-    by_stays rest true is = ap (λ (m : Needs). with_flow (is_reached w m.arrays f.root) f m) rest ∙ ap (λ (b : Bool). with_flow b f n) is
-
 -- ---- from the newest flow on
 
-abbrev no_flow : Flow
+abbrev pub no_flow : Flow
 no_flow = record { root = 0; formula = number Byte (pos 0) }
 
 -- the laws of arrays that are let go
 pub record Laws : Type 0 where
   pub below : BelowLaws
+  pub paths : PathsReach
   pub kept : KeptWereReached
   pub reached : ReachedAreSeenAsBefore
   pub again : SweepsByFewer
@@ -227,7 +191,7 @@ root_there laws a xs ys left f hs needed sound flows front back = by_test (is_re
 
     there : is_reached w needed r ≡ true → is_some (look (sweep w all) r) ≡ is_reached w needed r
     there on =
-        let reached : IsReached w all r = reached_is w all needed r (λ u t. within u (back u t)) on in
+        let reached : IsReached w all r = reached_more w needed all r (λ u t. within u (back u t)) (laws.paths w needed r on) in
         some_live (sweep w all) r (seen_live w (sweep w all) r (laws.reached w all r sound reached) (flow_live a f is)) ∙ sym on
 
     gone : is_reached w needed r ≡ false → is_some (look (sweep w all) r) ≡ is_reached w needed r
@@ -295,15 +259,15 @@ asked_part laws hs first xs ys f e t left sound flows so_far is lets_go = by_tes
     by : Bool → Flows
     by b = if b then now else without_at (length xs) now
 
-    stays : is_reached w n.arrays f.root ≡ true → (left ≡ xs ++ (with_flow (is_reached w n.arrays f.root) f n).flows) × LetsGo (hs ++ all_read left) first t []
+    stays : is_reached w n.arrays f.root ≡ true → (left ≡ xs ++ (needs_with (is_reached w n.arrays f.root) f n).flows) × LetsGo (hs ++ all_read left) first t []
     stays on =
         let same : left ≡ now = is ∙ ap by (there ∙ on) in
-        (same ∙ ap (λ (b : Bool). xs ++ (with_flow b f n).flows) (sym on), ends now same (λ v h. h))
+        (same ∙ ap (λ (b : Bool). xs ++ (needs_with b f n).flows) (sym on), ends now same (λ v h. h))
 
-    goes : is_reached w n.arrays f.root ≡ false → (left ≡ xs ++ (with_flow (is_reached w n.arrays f.root) f n).flows) × LetsGo (hs ++ all_read left) first t []
+    goes : is_reached w n.arrays f.root ≡ false → (left ≡ xs ++ (needs_with (is_reached w n.arrays f.root) f n).flows) × LetsGo (hs ++ all_read left) first t []
     goes off =
         let same : left ≡ xs ++ n.flows = is ∙ ap by (there ∙ off) ∙ without_here xs n.flows f in
-        (same ∙ ap (λ (b : Bool). xs ++ (with_flow b f n).flows) (sym off), ends (xs ++ n.flows) same (λ v h. less_read hs xs n.flows f v h))
+        (same ∙ ap (λ (b : Bool). xs ++ (needs_with b f n).flows) (sym off), ends (xs ++ n.flows) same (λ v h. less_read hs xs n.flows f v h))
 
 -- the flows at a place and behind it
 all_at : (flows : Flows) (at : ℕ) → at < length flows → take at flows ++ get_or flows at no_flow ∷ drop (at + 1) flows ≡ flows
@@ -374,48 +338,6 @@ needed_world again more hs first flows t left h =
     all_gone (hs ++ all_read left) first t h.lets_go ∙ ap (λ (fs : Flows). sweep w (hs ++ all_read fs)) h.flows
     ∙ same_sweep again more w (hs ++ all_read (needs_of w flows hs).flows) (needs_of w flows hs).arrays (held_needs w flows hs) (needs_held w flows hs)
 
--- what is needed is needed again, and so the tidied state is the same
-pub settled_unseen : LettingGoUnseen → (s : State) → tidy (with_world (settled s) (kept s)) ≡ tidy s
-settled_unseen unseen s =
-    let again : needs (settled s) ≡ needs s = needs_again s.arrays.world s.flows (held s) in
-    unseen (settled s) (needs s).arrays (λ v t. ap (λ (n : Needs). is_listed n.arrays v) (sym again) ∙ t)
-    ∙ ap (λ (n : Needs). numbered (record s { flows = n.flows }) (sweep s.arrays.world n.arrays)) again
-
-above_kept : (n : ℕ) (w : World) (flows : Flows) (hs : List ℕ) → RootsAbove n flows → RootsAbove n (needs_of w flows hs).flows
-above_kept n w [] hs above = tt
-above_kept n w (f ∷ flows) hs above = by_stays (above_kept n w flows hs above.1) (is_reached w (needs_of w flows hs).arrays f.root)
-  where
-    by_stays : RootsAbove n (needs_of w flows hs).flows → (stays : Bool) → RootsAbove n (with_flow stays f (needs_of w flows hs)).flows
-    by_stays rest true = (above.0, rest)
-    by_stays rest false = rest
-
--- the flows that stay equal their formulas
-pub kept_flows : MeaningLaws → ReachedAreSeenAsBefore → (a b : Arrays) (many : List ℕ) → IsSound a.world → b.world ≡ sweep a.world many → (flows : Flows) (hs : List ℕ) → AreFlows a flows
-    → ((v : ℕ) → is_listed (needs_of a.world flows hs).arrays v ≡ true → is_listed many v ≡ true) → AreFlows b (needs_of a.world flows hs).flows
-kept_flows meaning reached a b many sound is [] hs h all_held = tt
-kept_flows meaning reached a b many sound is (f ∷ flows) hs h all_held = by_stays (kept_flows meaning reached a b many sound is flows hs h.2) (is_reached w n.arrays f.root) refl all_held
-  where
-    w : World
-    w = a.world
-
-    n : Needs
-    n = needs_of w flows hs
-
-    seen : (v : ℕ) → IsReached w many v → IsSeenAsBefore w b.world v
-    seen v r = let P : World → Type 0 = λ u. IsSeenAsBefore w u v in subst P (sym is) (reached w many v sound r)
-
-    by_stays : (((v : ℕ) → is_listed n.arrays v ≡ true → is_listed many v ≡ true) → AreFlows b n.flows)
-        → (stays : Bool) → is_reached w n.arrays f.root ≡ stays → ((v : ℕ) → is_listed (with_flow stays f n).arrays v ≡ true → is_listed many v ≡ true) → AreFlows b (with_flow stays f n).flows
-    by_stays rest false on inside = rest inside
-    by_stays rest true on inside =
-        let below : (v : ℕ) → is_listed n.arrays v ≡ true → is_listed many v ≡ true = λ v t. inside v (listed_back (arrays_in f.formula) n.arrays v t) in (
-          flow_moved meaning a b f h.0
-              (λ k t. seen_shown w b.world k (seen k (held_itself k (inside k (listed_front (arrays_in f.formula) n.arrays k t)))) (older_is w f.root (arrays_in f.formula) k h.0.older t).1)
-              (seen f.root (reached_is w many n.arrays f.root below on)),
-          above_kept f.root w flows hs h.1,
-          rest below,
-        )
-
 -- arrays that stay held are there still
 pub staying_live : ReachedAreSeenAsBefore → (w u : World) (many : List ℕ) → IsSound w → u ≡ sweep w many → (vs : List ℕ) → ((v : ℕ) → is_listed vs v ≡ true → is_listed many v ≡ true) → AreLive w vs → AreLive u vs
 staying_live reached w u many sound is [] inside live = tt
@@ -434,7 +356,7 @@ kept_reads w (f ∷ flows) hs = by_stays (kept_reads w flows hs) (is_reached w (
     left : List ℕ
     left = all_read (needs_of w flows hs).flows
 
-    by_stays : length left ≤ length (all_read flows) → (stays : Bool) → length (all_read (with_flow stays f (needs_of w flows hs)).flows) ≤ length (ks ++ all_read flows)
+    by_stays : length left ≤ length (all_read flows) → (stays : Bool) → length (all_read (needs_with stays f (needs_of w flows hs)).flows) ≤ length (ks ++ all_read flows)
     by_stays rest true =
         let all : length (ks ++ all_read flows) ≡ length ks + length (all_read flows) = length-append ks (all_read flows) in
         let kept : length (ks ++ left) ≡ length ks + length left = length-append ks left in

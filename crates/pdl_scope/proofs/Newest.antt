@@ -1,14 +1,13 @@
 -- What new arrays take to be made ready.
-use Rattle.std.proofs.Common.{◌≡◌, ℕ, ℤ, ◌+◌, ◌≤◌, ◌<◌, Bool, true, false, List, [], ◌∷◌, ◌++◌, length, take, get_or, Option, Some, None, Result, Ok, Err, inl, inr, refl, sym, ap, subst, ◌∙◌, arith, int_eq}
-use Rattle.std.specs.Prelude.{◌==◌, ◌&&◌, not, if◌then◌else◌, pos, IsSomeAnd, option_and_then, sum_by}
+use Rattle.std.proofs.Common.{◌≡◌, ℕ, ℤ, ◌+◌, ◌≤◌, ◌<◌, Bool, true, false, List, [], ◌∷◌, ◌++◌, length, take, get_or, Option, Some, None, Result, Ok, Err, inl, inr, refl, sym, ap, subst, ◌∙◌, arith}
+use Rattle.std.specs.Prelude.{◌==◌, if◌then◌else◌, IsSomeAnd, option_and_then, sum_by}
 use Rattle.std.specs.Option.{option_map_or}
 use Rattle.std.proofs.lemmas.Bool.{eq-eqb, ne_eqb}
 use Rattle.std.proofs.lemmas.Bool.Decides.{eqb_tells}
-use Rattle.std.proofs.lemmas.List.Sums.{count_by-le-length, sum_by-cons, sum_by-take-le, sum_by_more}
+use Rattle.std.proofs.lemmas.List.Sums.{sum_by-cons, sum_by-take-le, sum_by_more}
 use Rattle.pdl_elem.specs.declared.Ty.{Ty}
 use Rattle.pdl_shape.specs.Shape.{size_of}
 use Rattle.pdl_numbers.specs.Typed.{count_moved}
-use Rattle.pdl_buf.specs.Made.{IsMade}
 use Rattle.pdl_buf.specs.declared.made.Made.{Made}
 use Rattle.pdl_nodes.specs.Owed.{owed}
 use Rattle.pdl_world.specs.Paths.{path, root_of}
@@ -23,7 +22,7 @@ use Rattle.pdl_engine.specs.State.{State as Engine, AreWaiting, IsLazy, is_fresh
 use Rattle.pdl_machine.specs.Arrays.{Arrays, with_new}
 use Rattle.pdl_machine.specs.Outcome.{Valued, new_root, new_view}
 use Rattle.pdl_machine.specs.declared.fault.Fault.{Fault}
-use Rattle.pdl_scope.specs.Costs.{GrowingLosesNothing, IsInOrder, NewRootsAreReady, NewRootsMoveTheirSize, NewViewsAddTheirSize, NewViewsCostTheirSize, total_size}
+use Rattle.pdl_scope.specs.Costs.{GrowingLosesNothing, IsInOrder, NewRootsAreReady, NewRootsMoveTheirSize, NewViewsAddTheirSize, NewViewsCostTheirSize, kept_size, total_size}
 use Rattle.pdl_scope.specs.Scope.{Scope, engine_of}
 use Rattle.pdl_scope.proofs.Dearer.{IsRoot, live_below, past_look, rooted, through_root, untouched}
 
@@ -38,7 +37,7 @@ none_owed : (own fresh : Bool) (size : ℕ) → owed own true fresh size ≡ 0
 none_owed true fresh size = refl
 none_owed false fresh size = refl
 
-owed_within : (own top fresh : Bool) (size : ℕ) → owed own top fresh size ≤ size
+owed_within : (own top fresh : Bool) (size : ℕ) → owed own top fresh size ≤ (if own then size else 0)
 owed_within true true fresh size = omega arith
 owed_within true false true size = omega arith
 owed_within true false false size = omega arith
@@ -92,7 +91,7 @@ roots_are_ready old new m v order is =
     ready_root (engine_of new) old.arrays.world v m.ty m.dims m.elems world order.whole.sound order.lazy
 
 -- what a new view takes
-new_live : (w : World) (k p : ℕ) (t : Trans) → IsSound ((k, view p t) ∷ w) → IsLive ((k, view p t) ∷ w) k
+pub new_live : (w : World) (k p : ℕ) (t : Trans) → IsSound ((k, view p t) ∷ w) → IsLive ((k, view p t) ∷ w) k
 new_live w k p t sound = (let here : IsSomeAnd (option_and_then (through t) (look w p)) (λ l. Unit {0}) = shown (look w p) refl in rw (eq-eqb k k refl) here)
   where
     shown : (o : Option Look) → look w p ≡ o → IsSomeAnd (option_and_then (through t) o) (λ l. Unit {0})
@@ -103,7 +102,7 @@ new_live w k p t sound = (let here : IsSomeAnd (option_and_then (through t) (loo
         by_dims (Ok ds) h = tt
         by_dims (Err e) h = absurd (cc)
 
-ready_view : (e : Engine) (w : World) (k p : ℕ) (t : Trans) → e.world ≡ (k, view p t) ∷ w → IsSound e.world → ready_steps e k ≤ ready_steps e p + size_of (dims_in e.world k)
+ready_view : (e : Engine) (w : World) (k p : ℕ) (t : Trans) → e.world ≡ (k, view p t) ∷ w → IsSound e.world → ready_steps e k ≤ ready_steps e p + kept_size e.world k
 ready_view e w k p t is sound =
     let whole : IsSound ((k, view p t) ∷ w) = subst IsSound is sound in
     let live : IsLive w p = whole.1.live in
@@ -111,7 +110,7 @@ ready_view e w k p t is sound =
     let past : path e.world p ≡ path w p = ap (λ u. path u p) is ∙ seen.path_is in
     let on : path e.world k ≡ k ∷ path e.world p = ap (λ u. path u k) is ∙ (let here : path ((k, view p t) ∷ w) k ≡ k ∷ path w p = rw (eq-eqb k k refl) refl in here) ∙ ap (λ us. k ∷ us) (sym past) in
     let all : outdated e k ≡ outdated_at e k + outdated e p = ap (sum_by (outdated_at e)) on ∙ sum_by-cons (outdated_at e) k (path e.world p) in
-    let here : outdated_at e k ≤ size_of (dims_in e.world k) = owed_within (base e.world k == k) (root_of e.world k == k) (is_fresh e k) (size_of (dims_in e.world k)) in
+    let here : outdated_at e k ≤ kept_size e.world k = owed_within (base e.world k == k) (root_of e.world k == k) (is_fresh e k) (size_of (dims_in e.world k)) in
     let there : IsLive ((k, view p t) ∷ w) k = new_live w k p t whole in
     let family : root_of ((k, view p t) ∷ w) k ≡ root_of w p = (let inside : IsSomeAnd (option_and_then (through t) (look w p)) (λ l. Unit {0}) = rw (eq-eqb k k refl) at there in rw (eq-eqb k k refl) (through_root t (look w p) k p inside)) in
     let same : root_of e.world k ≡ root_of e.world p = ap (λ u. root_of u k) is ∙ family ∙ ap (λ o. option_map_or (λ (l : Look). l.root) o p) (sym seen.look_is) ∙ ap (λ u. root_of u p) (sym is) in
@@ -129,45 +128,34 @@ views_cost old new p v t order live is =
     ap (λ (x : Arrays × ℕ). x.0.world) (sym both) ∙ ap (λ (x : Arrays × ℕ). (x.1, view p t) ∷ old.arrays.world) both in
     ready_view (engine_of new) old.arrays.world v p t world order.whole.sound
 
--- the elements of a new root are among those that came
-pub moved_within : (m : Made) → IsMade m.ty m.dims m.elems → count_moved m.elems ≤ size_of m.dims
-moved_within m made =
-    let few : count_moved m.elems ≤ length m.elems = count_by-le-length (λ x. not (int_eq x (pos 0))) m.elems in
-    omega (arith, few, made.count)
-
-pub root_adds : (old new : Arrays) (m : Made) (v : ℕ) → new_root old m ≡ Ok (new, v) → total_size new.world ≡ size_of m.dims + total_size old.world
+-- the elements of a new root are those that came
+root_adds : (old new : Arrays) (m : Made) (v : ℕ) → new_root old m ≡ Ok (new, v) → total_size new.world ≡ count_moved m.elems + total_size old.world
 root_adds old new m v is =
     let both : with_new old (root m.ty m.dims m.elems) ≡ (new, v) = ok_is _ _ is in
-    let dims : dims_in ((old.next, root m.ty m.dims m.elems) ∷ old.world) old.next ≡ m.dims = rw (eq-eqb old.next old.next refl) refl in
-    ap (λ (p : Arrays × ℕ). total_size p.0.world) (sym both) ∙ ap (λ ds. size_of ds + total_size old.world) dims
+    ap (λ (p : Arrays × ℕ). total_size p.0.world) (sym both)
 
 pub roots_move : NewRootsMoveTheirSize
-roots_move old new m v order is =
-    let both : with_new old.arrays (root m.ty m.dims m.elems) ≡ (new.arrays, v) = ok_is _ _ is in
-    let whole : IsSound ((old.arrays.next, root m.ty m.dims m.elems) ∷ old.arrays.world) = subst (λ (p : Arrays × ℕ). IsSound p.0.world) (sym both) order.whole.sound in
-    let all : total_size new.arrays.world ≡ size_of m.dims + total_size old.arrays.world = root_adds old.arrays new.arrays m v is in
-    let few : count_moved m.elems ≤ size_of m.dims = moved_within m whole.1.1 in
-    omega (arith, all, few)
+roots_move old new m v is = root_adds old.arrays new.arrays m v is
 
 pub views_add : NewViewsAddTheirSize
 views_add old new p v t is =
     let both : with_new old.arrays (view p t) ≡ (new.arrays, v) = view_is old.arrays new.arrays p v t (view_refusal old.arrays.world p t) is in
-    ap (λ (x : Arrays × ℕ). total_size x.0.world) (sym both) ∙ ap (λ (x : Arrays × ℕ). size_of (dims_in x.0.world x.1) + total_size old.arrays.world) both
+    ap (λ (x : Arrays × ℕ). total_size x.0.world) (sym both) ∙ ap (λ (x : Arrays × ℕ). kept_size x.0.world x.1 + total_size old.arrays.world) both
 
 more_adds : (more w : World) → total_size w ≤ total_size (more ++ w)
 more_adds [] w = omega arith
-more_adds ((k, d) ∷ more) w = (let rest : total_size w ≤ total_size (more ++ w) = more_adds more w in omega (arith, rest))
+more_adds ((k, root ty ds es) ∷ more) w = (let rest : total_size w ≤ total_size (more ++ w) = more_adds more w in omega (arith, rest))
+more_adds ((k, view p t) ∷ more) w = (let rest : total_size w ≤ total_size (more ++ w) = more_adds more w in omega (arith, rest))
 
 pub none_lost : GrowingLosesNothing
 none_lost old new grown = (let all : total_size new.arrays.world ≡ total_size (grown.arrays.more ++ old.arrays.world) = ap total_size grown.arrays.is in let less = more_adds grown.arrays.more old.arrays.world in omega (arith, all, less))
 
 -- one more new root, after others
-pub root_within : (mid new : Scope) (m : Made) (old : Scope) (before now after v : ℕ) → now + total_size old.arrays.world ≤ before + total_size mid.arrays.world → IsMade m.ty m.dims m.elems → new_root mid.arrays m ≡ Ok (new.arrays, v)
+pub root_within : (mid new : Scope) (m : Made) (old : Scope) (before now after v : ℕ) → now + total_size old.arrays.world ≤ before + total_size mid.arrays.world → new_root mid.arrays m ≡ Ok (new.arrays, v)
     → after ≤ now + count_moved m.elems → after + total_size old.arrays.world ≤ before + total_size new.arrays.world
-root_within mid new m old before now after v so_far made is counted =
-    let few : count_moved m.elems ≤ size_of m.dims = moved_within m made in
-    let all : total_size new.arrays.world ≡ size_of m.dims + total_size mid.arrays.world = root_adds mid.arrays new.arrays m v is in
-    omega (arith, so_far, few, all, counted)
+root_within mid new m old before now after v so_far is counted =
+    let all : total_size new.arrays.world ≡ count_moved m.elems + total_size mid.arrays.world = root_adds mid.arrays new.arrays m v is in
+    omega (arith, so_far, all, counted)
 
 abbrev moved : Made → ℕ
 moved m = count_moved m.elems

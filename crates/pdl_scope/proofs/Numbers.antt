@@ -15,7 +15,8 @@ use Rattle.pdl_world.specs.Sound.{IsAllowed, IsLive, IsSound, NumbersBelow}
 use Rattle.pdl_world.specs.World.{World, ArrayDef, root, view, Look, look, ty_in, dims_in, elements}
 use Rattle.pdl_image.specs.Lines.{Line}
 use Rattle.pdl_image.specs.Dump.{array_lines, world_lines}
-use Rattle.pdl_engine.specs.Looks.{first_from, numbers_in, trans_in}
+use Rattle.pdl_registry.specs.Numbered.{first_from}
+use Rattle.pdl_engine.specs.Looks.{array_numbers, trans_in}
 use Rattle.pdl_machine.specs.Tidy.{older, renumber, with_parent}
 use Rattle.pdl_scope.proofs.Printing.{take_entry}
 use Rattle.pdl_scope.specs.Dumping.{array_at, lines_at, oldest, place_from}
@@ -46,13 +47,13 @@ under_last : (n k : ℕ) (ks : List ℕ) → k < n → AllUnder n ks → AllUnde
 under_last n k [] low under = (low, tt)
 under_last n k (j ∷ js) low under = (under.0, under_last n k js low under.1)
 
-numbers_under : (n : ℕ) (w : World) → NumbersBelow n w → AllUnder n (numbers_in w)
+numbers_under : (n : ℕ) (w : World) → NumbersBelow n w → AllUnder n (array_numbers w)
 numbers_under n [] below = tt
-numbers_under n ((k, d) ∷ w) below = under_last n k (numbers_in w) below.0 (numbers_under n w below.1)
+numbers_under n ((k, d) ∷ w) below = under_last n k (array_numbers w) below.0 (numbers_under n w below.1)
 
-pub numbers_rise : (w : World) → IsSound w → Rises (numbers_in w)
+pub numbers_rise : (w : World) → IsSound w → Rises (array_numbers w)
 numbers_rise [] sound = tt
-numbers_rise ((k, d) ∷ w) sound = rises_last k (numbers_in w) (numbers_under k w sound.0) (numbers_rise w sound.2)
+numbers_rise ((k, d) ∷ w) sound = rises_last k (array_numbers w) (numbers_under k w sound.0) (numbers_rise w sound.2)
 
 -- the number at a place is above those before it
 pub above_at : (k : ℕ) (ks : List ℕ) (n v : ℕ) → AllAbove k ks → slice_get ks n ≡ Some v → k < v
@@ -79,13 +80,13 @@ first_is [] = refl
 first_is (k ∷ ks) = rw (le-leb 0 k (omega arith)) refl
 
 -- behind a number of a world the next one of the world comes
-pub next_number : (w : World) (n v : ℕ) → IsSound w → slice_get (numbers_in w) n ≡ Some v → first_from (numbers_in w) (v + 1) ≡ slice_get (numbers_in w) (suc n)
-next_number w n v sound at = next_is (numbers_in w) n v (numbers_rise w sound) at
+pub next_number : (w : World) (n v : ℕ) → IsSound w → slice_get (array_numbers w) n ≡ Some v → first_from (array_numbers w) (v + 1) ≡ slice_get (array_numbers w) (suc n)
+next_number w n v sound at = next_is (array_numbers w) n v (numbers_rise w sound) at
 
-pub length-numbers : (w : World) → length (numbers_in w) ≡ length w
+pub length-numbers : (w : World) → length (array_numbers w) ≡ length w
 length-numbers [] = refl
 length-numbers ((k, d) ∷ w) =
-    let last : length (numbers_in w ++ k ∷ []) ≡ length (numbers_in w) + 1 = length-append (numbers_in w) (k ∷ []) in
+    let last : length (array_numbers w ++ k ∷ []) ≡ length (array_numbers w) + 1 = length-append (array_numbers w) (k ∷ []) in
     omega (arith, last, length-numbers w)
 
 -- ---- the place of a number
@@ -102,16 +103,16 @@ place_other v k (j ∷ js) at other =
     by_test (j == v) (λ same. rw same refl) (λ apart. rw apart (place_other v k js (at + 1) other))
 
 -- it is how many arrays are older
-pub place_is : (w : World) (v : ℕ) → IsSound w → place_from (numbers_in w) v 0 ≡ older w v
+pub place_is : (w : World) (v : ℕ) → IsSound w → place_from (array_numbers w) v 0 ≡ older w v
 place_is [] v sound = refl
 place_is ((k, d) ∷ w) v sound =
     by_test (k == v)
     (λ same.
     let e : k ≡ v = eqb-true k v same in
-    let under : AllUnder v (numbers_in w) = subst (λ (n : ℕ). AllUnder n (numbers_in w)) e (numbers_under k w sound.0) in
-    let whole : length (numbers_in w) + 0 ≡ length w = omega (arith, length-numbers w) in
-    rw same (ap (λ (n : ℕ). place_from (numbers_in w ++ n ∷ []) v 0) e ∙ place_absent v (numbers_in w) 0 under ∙ whole))
-    (λ other. rw other (place_other v k (numbers_in w) 0 other ∙ place_is w v sound.2))
+    let under : AllUnder v (array_numbers w) = subst (λ (n : ℕ). AllUnder n (array_numbers w)) e (numbers_under k w sound.0) in
+    let whole : length (array_numbers w) + 0 ≡ length w = omega (arith, length-numbers w) in
+    rw same (ap (λ (n : ℕ). place_from (array_numbers w ++ n ∷ []) v 0) e ∙ place_absent v (array_numbers w) 0 under ∙ whole))
+    (λ other. rw other (place_other v k (array_numbers w) 0 other ∙ place_is w v sound.2))
 
 -- ---- the array at a place
 
@@ -130,14 +131,14 @@ under_length n i low other =
     (λ not. let le : n ≤ i = ltb-false i n not in absurd (eqb-false n i other (omega (arith, le, low))))
 
 -- the number at a place is that of the array there
-pub number_is : (w : World) (i : ℕ) → i < length w → slice_get (numbers_in w) i ≡ Some (array_at w i).0
+pub number_is : (w : World) (i : ℕ) → i < length w → slice_get (array_numbers w) i ≡ Some (array_at w i).0
 number_is [] i low = absurd (omega (arith, low))
 number_is ((k, d) ∷ w) i low =
     by_test (length w == i)
-    (λ same. let e : length w ≡ i = eqb-true (length w) i same in rw same (number_last (numbers_in w) k i (omega (arith, e, length-numbers w))))
+    (λ same. let e : length w ≡ i = eqb-true (length w) i same in rw same (number_last (array_numbers w) k i (omega (arith, e, length-numbers w))))
     (λ other.
     let below : i < length w = under_length (length w) i low other in
-    rw other (number_before (numbers_in w) k i (omega (arith, below, length-numbers w)) ∙ number_is w i below))
+    rw other (number_before (array_numbers w) k i (omega (arith, below, length-numbers w)) ∙ number_is w i below))
 
 -- ---- its lines
 
@@ -275,9 +276,9 @@ number_or d None = d
 number_or d (Some v) = v
 
 -- each listed number is that of an array
-pub listed_live : Laws → (w : World) (n v : ℕ) → IsSound w → slice_get (numbers_in w) n ≡ Some v → IsLive w v
+pub listed_live : Laws → (w : World) (n v : ℕ) → IsSound w → slice_get (array_numbers w) n ≡ Some v → IsLive w v
 listed_live laws w n v sound at =
-    let low : n < length w = subst (λ (m : ℕ). n < m) (length-numbers w) (in_range (numbers_in w) n v at) in
+    let low : n < length w = subst (λ (m : ℕ). n < m) (length-numbers w) (in_range (array_numbers w) n v at) in
     let same : (array_at w n).0 ≡ v = ap (number_or 0) (sym (number_is w n low) ∙ at) in
     subst (λ (u : ℕ). IsLive w u) same (looks_at laws w n sound low).0
 

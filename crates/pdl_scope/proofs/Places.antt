@@ -9,7 +9,7 @@ use Rattle.std.proofs.lemmas.Option.{slice_get-get_or}
 use Rattle.pdl_lemmas.specs.Tests.{by_lt}
 use Rattle.pdl_world.specs.Sound.{IsSound}
 use Rattle.pdl_world.specs.World.{World}
-use Rattle.pdl_engine.specs.Looks.{numbers_in}
+use Rattle.pdl_engine.specs.Looks.{array_numbers}
 use Rattle.pdl_scope.specs.Dumping.{place_from}
 use Rattle.pdl_scope.proofs.Numbers.{Rises, above_at, numbers_rise}
 
@@ -20,10 +20,10 @@ adjacent [] rises k low = absurd (omega (arith, low))
 adjacent (j ∷ js) rises zero low = above_at j js 0 (get_or js 0 0) rises.0 (slice_get-get_or js 0 0 (omega (arith, low)))
 adjacent (j ∷ js) rises (suc k) low = adjacent js rises.1 k (omega (arith, low))
 
-pub numbers_increase : (w : World) → IsSound w → IsStrictlyIncreasing (numbers_in w)
+pub numbers_increase : (w : World) → IsSound w → IsStrictlyIncreasing (array_numbers w)
 numbers_increase w sound k low =
     let e : suc k ≡ k + 1 = omega arith in
-    subst (λ (n : ℕ). get_or (numbers_in w) k 0 < get_or (numbers_in w) n 0) e (adjacent (numbers_in w) (numbers_rise w sound) k (omega (arith, low)))
+    subst (λ (n : ℕ). get_or (array_numbers w) k 0 < get_or (array_numbers w) n 0) e (adjacent (array_numbers w) (numbers_rise w sound) k (omega (arith, low)))
 
 strictly : (ks : List ℕ) → IsStrictlyIncreasing ks → (i j : ℕ) → i < j → j < length ks → get_or ks i 0 < get_or ks j 0
 strictly ks rises i j lt low = AllPairs-from_increasing ks rises i j 0 lt low

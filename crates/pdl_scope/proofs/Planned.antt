@@ -17,11 +17,10 @@ use Rattle.pdl_world.specs.Sound.{IsLive, IsSound, NumbersBelow}
 use Rattle.pdl_world.specs.Swept.{KeepsAll, is_listed}
 use Rattle.pdl_world.specs.Windows.{base}
 use Rattle.pdl_world.specs.World.{World, Look, assign, dims_in, has_repeats, places_in, ty_in}
-use Rattle.pdl_engine.specs.Foresights.{Foretells}
 use Rattle.pdl_engine.specs.Reading.{IsWarm}
 use Rattle.pdl_engine.specs.State.{State as Engine, SameArrays, StayFresh, is_fresh}
 use Rattle.pdl_scope.specs.Assigning.{CanAssign}
-use Rattle.pdl_scope.specs.Plans.{AllCanAssign, AllForetell, AreApart, AreForetold, ArePlanned, IsChange, all_assigned, roots_in}
+use Rattle.pdl_scope.specs.Plans.{AllCanAssign, AllForetell, AreApart, AreForetold, ArePlanned, IsChange, IsForetold, all_assigned, roots_in}
 use Rattle.pdl_scope.specs.declared.following.Change.{Change}
 use Rattle.pdl_scope.proofs.Followers.{listed_last}
 use Rattle.pdl_scope.proofs.Plans.{live_stays, root_stays, roots_more}
@@ -62,8 +61,8 @@ apart_more w (b ∷ cs) c h own none =
     )
 
 each_more : (w : World) (cs : List Change) (e : Engine) (c : Change) → w ≡ e.world → AllForetell w cs → IsChange e c → AllForetell w (cs ++ c ∷ [])
-each_more w [] e c same h is = (subst (λ (x : World). Foretells x c.target c.values.items c.foresight) (sym same) is.foretells, tt)
-each_more w (b ∷ cs) e c same h is = (h.0, each_more w cs e c same h.1 is)
+each_more w [] e c same h is = (subst (λ (x : World). IsLive x c.target) (sym same) is.can.live, subst (λ (x : World). IsForetold x c) (sym same) is.foretells, tt)
+each_more w (b ∷ cs) e c same h is = (h.0, h.1, each_more w cs e c same h.2 is)
 
 can_more : (e : Engine) (cs : List Change) (c : Change) → AllCanAssign e cs → IsChange e c → AllCanAssign e (cs ++ c ∷ [])
 can_more e [] c h is = (is.can, tt)
@@ -74,10 +73,6 @@ planned_more e cs c h is none = record {
   foretold = record { apart = apart_more e.world cs c h.foretold.apart is.root none; each = each_more e.world cs e c refl h.foretold.each is };
   can = can_more e cs c h.can is;
 }
-
--- one alone
-pub planned_one : (e : Engine) (c : Change) → IsChange e c → ArePlanned e (c ∷ [])
-planned_one e c is = record { foretold = record { apart = (is.root, refl, tt); each = (is.foretells, tt) }; can = (is.can, tt) }
 
 -- ---- where they are made
 

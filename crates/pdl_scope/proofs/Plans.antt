@@ -1,18 +1,23 @@
 -- Assignments to different roots one after another: what is seen after them.
-use Rattle.std.proofs.Common.{◌≡◌, ℕ, ℤ, List, [], ◌∷◌, ◌++◌, map, Bool, true, false, Option, Some, None, refl, sym, ap, subst, ◌∙◌, eqb-true, eq-eqb}
+use Rattle.std.proofs.Common.{◌≡◌, ℕ, zero, suc, ◌+◌, ◌<◌, ℤ, List, [], ◌∷◌, ◌++◌, length, map, Bool, true, false, Option, Some, None, arith, refl, sym, ap, subst, ◌∙◌, eqb-true, eq-eqb}
 use Rattle.std.specs.Prelude.{◌==◌, if◌then◌else◌, IsSomeAnd}
+use Rattle.std.specs.List.{range_with_len}
+use Rattle.std.proofs.lemmas.List.{length-map}
+use Rattle.std.proofs.lemmas.List.FromFn.{length-range_with_len}
 use Rattle.std.specs.Option.{option_map_or}
 use Rattle.std.proofs.lemmas.Bool.{or_parts}
 use Rattle.pdl_lemmas.specs.Tests.{by_test}
 use Rattle.pdl_shape.specs.Places.{read, write}
-use Rattle.pdl_world.specs.Laws.{LooksStay, Reads}
+use Rattle.pdl_shape.specs.Shape.{size_of}
+use Rattle.pdl_world.specs.CutLaws.{CutsAreRoots, IsRootIn, RootsAreUncut}
+use Rattle.pdl_world.specs.Laws.{LooksStay, Reads, ReadsBack, kept_values}
 use Rattle.pdl_world.specs.PartLaws.{PartsLeaveOthers, WholesAreParts}
 use Rattle.pdl_world.specs.Paths.{root_of}
-use Rattle.pdl_world.specs.Sound.{IsLive}
+use Rattle.pdl_world.specs.Sound.{IsLive, IsSound}
 use Rattle.pdl_world.specs.Swept.{is_listed}
-use Rattle.pdl_world.specs.World.{World, ArrayDef, root, view, Look, look, assign, assign_through, elements, root_elements, set_elements}
-use Rattle.pdl_engine.specs.Foresights.{Foretells}
-use Rattle.pdl_scope.specs.Plans.{AllForetell, AreApart, AreForetold, all_assigned, change_to, roots_in}
+use Rattle.pdl_world.specs.World.{World, ArrayDef, root, view, Look, look, look_of_root, assign, assign_through, dims_in, elements, has_repeats, is_among, root_elements, set_elements}
+use Rattle.pdl_engine.specs.State.{State as Engine}
+use Rattle.pdl_scope.specs.Plans.{AllCanAssign, AllForetell, AreApart, AreForetold, ArePlanned, IsChange, all_assigned, change_to, roots_in}
 use Rattle.pdl_scope.specs.declared.following.Change.{Change}
 
 -- the laws that are used here
@@ -97,7 +102,7 @@ there_stays looks w t vs (c ∷ cs) h = (live_stays looks w t c.target vs h.0, t
 
 are_there : (w : World) (cs : List Change) → AllForetell w cs → AreThere w cs
 are_there w [] h = tt
-are_there w (c ∷ cs) h = (h.0.live, are_there w cs h.1)
+are_there w (c ∷ cs) h = (h.0, are_there w cs h.2)
 
 -- nothing is seen otherwise through any array
 pub looks_after : LooksStay → (w : World) (cs : List Change) (u : ℕ) → look (all_assigned w cs) u ≡ look w u
@@ -125,11 +130,11 @@ record IsFound (w : World) (r : ℕ) (c : Change) : Type 0 where
   own : c.root ≡ root_of w c.target
   live : IsLive w c.target
 
-is_found : (w : World) (cs : List Change) (r : ℕ) (c : Change) → AreApart w cs → AreThere w cs → change_to cs r ≡ Some c → IsFound w r c
-is_found w [] r c apart there is = cc
-is_found w (b ∷ cs) r c apart there is = by_test (b.root == r)
+found_at : (w : World) (cs : List Change) (r : ℕ) (c : Change) → AreApart w cs → AreThere w cs → change_to cs r ≡ Some c → IsFound w r c
+found_at w [] r c apart there is = cc
+found_at w (b ∷ cs) r c apart there is = by_test (b.root == r)
     (λ same. let e : Some b ≡ Some c = rw same at is in subst (IsFound w r) (some_same b c e) (record { root = eqb-true b.root r same; own = apart.0; live = there.0 }))
-    (λ other. let rest : change_to cs r ≡ Some c = rw other at is in is_found w cs r c apart.2 there.1 rest)
+    (λ other. let rest : change_to cs r ≡ Some c = rw other at is in found_at w cs r c apart.2 there.1 rest)
   where
     some_same : (b c : Change) → Some b ≡ Some c → b ≡ c
     some_same b c e = cc
@@ -143,7 +148,7 @@ left_by laws w (b ∷ cs) u c apart there live is = by_test (b.root == root_of w
     let none : is_listed (roots_in cs) (root_of x u) ≡ false = ap (is_listed (roots_in cs)) (root_stays laws.looks w b.target u vs ∙ sym (eqb-true b.root (root_of w u) same)) ∙ apart.1 in
     untouched laws x cs u (apart_stays laws.looks w b.target vs cs apart.2) none ∙ ap shown (some_same b c e))
     (λ other. let rest : change_to cs (root_of w u) ≡ Some c = rw other at is in
-    let found : IsFound w (root_of w u) c = is_found w cs (root_of w u) c apart.2 there.1 rest in
+    let found : IsFound w (root_of w u) c = found_at w cs (root_of w u) c apart.2 there.1 rest in
     left_by laws x cs u c (apart_stays laws.looks w b.target vs cs apart.2) (there_stays laws.looks w b.target vs cs there.1) (live_stays laws.looks w b.target u vs live)
     (ap (change_to cs) (root_stays laws.looks w b.target u vs) ∙ rest)
     ∙ behind laws w b.target c.target u vs c.values.items (ap (λ r. r == root_of w u) (sym apart.0) ∙ other) (sym found.own ∙ found.root) found.live live)
@@ -179,18 +184,47 @@ shown_found laws w cs u c h live is = left_by laws w cs u c h.apart (are_there w
 pub shown_kept : Laws → (w : World) (cs : List Change) (u : ℕ) → AreForetold w cs → change_to cs (root_of w u) ≡ None → elements (all_assigned w cs) u ≡ elements w u
 shown_kept laws w cs u h is = untouched laws w cs u h.apart (none_listed cs (root_of w u) is)
 
--- and that one tells what it will write
-pub found_foretells : (w : World) (cs : List Change) (r : ℕ) (c : Change) → AllForetell w cs → change_to cs r ≡ Some c → Foretells w c.target c.values.items c.foresight
-found_foretells w [] r c h is = cc
-found_foretells w (b ∷ cs) r c h is = by_test (b.root == r)
-    (λ same. let e : Some b ≡ Some c = rw same at is in subst tells (some_same b c e) h.0)
-    (λ other. let rest : change_to cs r ≡ Some c = rw other at is in found_foretells w cs r c h.1 rest)
+-- and that one can be made
+pub found_change : (e : Engine) (cs : List Change) (r : ℕ) (c : Change) → ArePlanned e cs → change_to cs r ≡ Some c → IsChange e c
+found_change e cs r c h is = among cs h.foretold.apart h.foretold.each h.can is
   where
-    tells : Change → Type 0
-    tells d = Foretells w d.target d.values.items d.foresight
+    some_same : (b d : Change) → Some b ≡ Some d → b ≡ d
+    some_same b d same = cc
 
-    some_same : (b c : Change) → Some b ≡ Some c → b ≡ c
-    some_same b c e = cc
+    among : (ds : List Change) → AreApart e.world ds → AllForetell e.world ds → AllCanAssign e ds → change_to ds r ≡ Some c → IsChange e c
+    among [] apart each can at = cc
+    among (b ∷ ds) apart each can at = by_test (b.root == r)
+        (λ same. let found : Some b ≡ Some c = rw same at at in subst (IsChange e) (some_same b c found) (record { root = apart.0; foretells = each.1; can = can.0 }))
+        (λ other. let rest : change_to ds r ≡ Some c = rw other at at in among ds apart.2 each.2 can.1 rest)
+
+-- each position of a root is its own place
+among_later : (i a n : ℕ) → i < a → is_among i (map Some (range_with_len a n)) ≡ false
+among_later i a zero lt = refl
+among_later i a (suc n) lt =
+    let other : (i == a) ≡ false = by_test (i == a) (λ same. let e : i ≡ a = eqb-true i a same in absurd (omega (arith, e, lt))) (λ o. o) in
+    rw other (among_later i (a + 1) n (omega (arith, lt)))
+
+no_repeats : (a n : ℕ) → has_repeats (map Some (range_with_len a n)) ≡ false
+no_repeats a zero = refl
+no_repeats a (suc n) = let first : is_among a (map Some (range_with_len (a + 1) n)) ≡ false = among_later a (a + 1) n (omega arith) in rw first (no_repeats (a + 1) n)
+
+all_values : (a n : ℕ) (vs : List ℤ) → length vs ≡ n → kept_values (map Some (range_with_len a n)) vs ≡ vs
+all_values a zero [] e = refl
+all_values a zero (x ∷ vs) e = absurd (omega (arith, e))
+all_values a (suc n) [] e = absurd (omega (arith, e))
+all_values a (suc n) (x ∷ vs) e = ap (λ (es : List ℤ). x ∷ es) (all_values (a + 1) n vs (omega (arith, e)))
+
+-- a root has what was assigned to it
+pub root_assigned : CutsAreRoots → RootsAreUncut → ReadsBack → (w : World) (v : ℕ) (vs : List ℤ) → IsSound w → IsLive w v → root_of w v ≡ v → length vs ≡ size_of (dims_in w v)
+    → elements (assign w v vs) v ≡ vs
+root_assigned cuts uncut back w v vs sound live own long =
+    let l = live_look w v live in
+    let is : IsRootIn w v l.0 = subst (λ (x : World). IsRootIn x v l.0) (uncut w v sound own) (cuts w v l.0 sound l.1) in
+    let n = size_of l.0.dims in
+    let count : length vs ≡ n = long ∙ ap (λ (o : Option Look). size_of (option_map_or (λ m. m.dims) o [])) l.1 in
+    back w v (look_of_root v l.0.ty l.0.dims) vs sound is.look_is (no_repeats 0 n)
+    (count ∙ sym (length-map (range_with_len 0 n) Some ∙ length-range_with_len 0 n))
+    ∙ all_values 0 n vs count
 
 -- one more at the end
 pub roots_more : (cs : List Change) (c : Change) → roots_in (cs ++ c ∷ []) ≡ roots_in cs ++ c.root ∷ []

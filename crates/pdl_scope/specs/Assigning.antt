@@ -1,15 +1,14 @@
 -- Assignments that can be made at once, and those that are made block by block.
-use Rattle.std.specs.Prelude.{◌≡◌, ℕ, ℤ, true, List, [], ◌∷◌, length, All, Result, Ok}
+use Rattle.std.specs.Prelude.{◌≡◌, ℕ, ℤ, true, List, [], length, All, Result, Ok}
 use Rattle.pdl_elem.specs.Types.{InRange}
 use Rattle.pdl_shape.specs.Shape.{size_of}
 use Rattle.pdl_lexemes.specs.declared.AssignOp.{AssignOp}
-use Rattle.pdl_world.specs.Paths.{root_of}
 use Rattle.pdl_world.specs.Sound.{IsLive}
 use Rattle.pdl_world.specs.World.{dims_in, ty_in}
 use Rattle.pdl_engine.specs.State.{State as Engine, is_fresh}
 use Rattle.pdl_assign.specs.Blocks.{CanBlock}
 use Rattle.pdl_machine.specs.State.{with_arrays}
-use Rattle.pdl_machine.specs.Flows.{Flows, affected}
+use Rattle.pdl_machine.specs.Flows.{followers}
 use Rattle.pdl_machine.specs.Step.{assigned, flowed}
 use Rattle.pdl_machine.specs.Then.{and_then}
 use Rattle.pdl_scope.specs.Answers.{Runs}
@@ -22,10 +21,6 @@ pub record CanAssign (e : Engine) (target : ℕ) (values : List ℤ) : Type 0 wh
   pub fresh : is_fresh e target ≡ true
   pub count : length values ≡ size_of (dims_in e.world target)
   pub in_range : All (InRange (ty_in e.world target)) values
-
--- the flows that follow an assignment to v
-abbrev pub followers : Scope → ℕ → Flows
-followers s v = affected s.arrays.world s.flows (root_of s.arrays.world v ∷ [])
 
 -- u was assigned to v by a sign, after which flows followed, or what refuses it kept all as it was;
 -- nothing is printed
@@ -40,7 +35,7 @@ Assigns sign v u old new result =
 -- follows.
 pub record IsAlone (s : Scope) (v : ℕ) : Type 0 where
   pub unwatched : s.watches ≡ []
-  pub unfollowed : followers s v ≡ []
+  pub unfollowed : followers s.arrays.world s.flows v ≡ []
 
 -- an assignment of u to v can be made block by block: both can be lent, and no block reads what one
 -- before it wrote

@@ -1,5 +1,5 @@
 -- What reading and making arrays costs.
-use Rattle.std.specs.Prelude.{◌≡◌, ℕ, ◌+◌, ◌≤◌, ◌==◌, ◌&&◌, Bool, false, List, [], ◌∷◌, Option, Some, None, Result, Ok, Err, is_ok}
+use Rattle.std.specs.Prelude.{◌≡◌, ℕ, ◌+◌, ◌≤◌, ◌==◌, ◌&&◌, if◌then◌else◌, Bool, false, List, [], ◌∷◌, Option, Some, None, Result, Ok, Err, is_ok}
 use Rattle.pdl_numbers.specs.Typed.{count_moved}
 use Rattle.pdl_shape.specs.Shape.{size_of}
 use Rattle.pdl_buf.specs.declared.made.Made.{Made}
@@ -8,7 +8,8 @@ use Rattle.pdl_sig.specs.declared.ArgShape.{ArgShape}
 use Rattle.pdl_kernel.specs.Kernels.{Kernel}
 use Rattle.pdl_world.specs.Refused.{view_refusal}
 use Rattle.pdl_world.specs.Sound.{IsLive}
-use Rattle.pdl_world.specs.World.{World, dims_in}
+use Rattle.pdl_world.specs.Windows.{base}
+use Rattle.pdl_world.specs.World.{World, dims_in, root, view}
 use Rattle.pdl_world.specs.declared.Trans.{Trans}
 use Rattle.pdl_engine.specs.Reading.{read_steps}
 use Rattle.pdl_engine.specs.State.{State as Engine, IsLazy, ready_steps}
@@ -42,13 +43,20 @@ pub record MovesNothing (old new : Engine) (before after : ℕ) : Type 0 where
   pub fresh : new.fresh ≡ old.fresh
   pub pending : new.pending ≡ old.pending
 
--- how many elements the arrays of a world have together
+-- how many elements a view keeps: its own where it is its own base, none where it is shown over
+-- another
+abbrev pub kept_size : World → ℕ → ℕ
+kept_size w v = if base w v == v then size_of (dims_in w v) else 0
+
+-- how many elements move at most for the arrays of a world: those of the roots that aren't 0, and
+-- those that views keep
 abbrev pub total_size : World → ℕ
 total_size [] = 0
-total_size ((k, d) ∷ w) = size_of (dims_in ((k, d) ∷ w) k) + total_size w
+total_size ((k, root ty ds es) ∷ w) = count_moved es + total_size w
+total_size ((k, view p t) ∷ w) = kept_size ((k, view p t) ∷ w) k + total_size w
 
--- It takes at most a step for each element of the arrays that came, and so many besides. Where
--- memory ran out it says nothing.
+-- It takes at most a step for each element that moves for the arrays that came, and so many besides.
+-- Where memory ran out it says nothing.
 abbrev pub MovesWithin : {T : Type 0} → (most : ℕ) → (old new : Scope) → (before after : ℕ)
     → Result T ScopeFault → Type 0
 MovesWithin most old new before after (Err NoMemory) = Unit {0}
@@ -89,28 +97,28 @@ NewRootsAreReady =
     (old new : Scope) (m : Made) (v : ℕ) → IsInOrder new
     → new_root old.arrays m ≡ Ok (new.arrays, v) → ready_steps (engine_of new) v ≡ 0
 
--- to make a new view ready takes what its parent takes, and at most a step for each element
+-- to make a new view ready takes what its parent takes, and at most a step for each element that it
+-- keeps
 abbrev pub NewViewsCostTheirSize : Type 0
 NewViewsCostTheirSize =
     (old new : Scope) (p v : ℕ) (t : Trans) → IsInOrder new → IsLive old.arrays.world p
     → new_view old.arrays p t (view_refusal old.arrays.world p t) ≡ Ok (new.arrays, v)
     → ready_steps (engine_of new) v
-    ≤ ready_steps (engine_of new) p + size_of (dims_in new.arrays.world v)
+    ≤ ready_steps (engine_of new) p + kept_size new.arrays.world v
 
--- the elements of a new root that aren't 0 are among those that came
+-- the elements of a new root that aren't 0 are those that came
 abbrev pub NewRootsMoveTheirSize : Type 0
 NewRootsMoveTheirSize =
-    (old new : Scope) (m : Made) (v : ℕ) → IsInOrder new
-    → new_root old.arrays m ≡ Ok (new.arrays, v)
-    → count_moved m.elems + total_size old.arrays.world ≤ total_size new.arrays.world
+    (old new : Scope) (m : Made) (v : ℕ) → new_root old.arrays m ≡ Ok (new.arrays, v)
+    → total_size new.arrays.world ≡ count_moved m.elems + total_size old.arrays.world
 
--- those of a new view are, and no element goes
+-- those that a new view keeps are, and no element goes
 abbrev pub NewViewsAddTheirSize : Type 0
 NewViewsAddTheirSize =
     (old new : Scope) (p v : ℕ) (t : Trans)
     → new_view old.arrays p t (view_refusal old.arrays.world p t) ≡ Ok (new.arrays, v)
     → total_size new.arrays.world
-    ≡ size_of (dims_in new.arrays.world v) + total_size old.arrays.world
+    ≡ kept_size new.arrays.world v + total_size old.arrays.world
 
 abbrev pub GrowingLosesNothing : Type 0
 GrowingLosesNothing =

@@ -1,12 +1,12 @@
 -- What flows keep: the dimensions of arrays, and what the formula of a root reads.
-use Rattle.std.specs.Prelude.{◌≡◌, ℕ, ◌==◌, ◌++◌, if◌then◌else◌, List, [], ◌∷◌, Option, Some, None}
-use Rattle.std.specs.List.{slice_get}
-use Rattle.pdl_flow.specs.Formula.{FormulaTree, arrays_in}
+use Rattle.std.specs.Prelude.{◌≡◌, ℕ, ◌==◌, ◌++◌, if◌then◌else◌, Bool, List, [], ◌∷◌, Option, Some, None}
+use Rattle.std.specs.List.{list_any, slice_get}
+use Rattle.pdl_flow.specs.Formula.{arrays_in}
+use Rattle.pdl_world.specs.Paths.{root_of}
 use Rattle.pdl_world.specs.World.{World}
 use Rattle.pdl_machine.specs.Cuts.{is_read, is_watched}
 use Rattle.pdl_machine.specs.Flows.{Flow, Flows, is_flow}
 use Rattle.pdl_machine.specs.Following.{RootsAbove}
-use Rattle.pdl_machine.specs.State.{State}
 use Rattle.pdl_machine.specs.Watches.{Watches}
 use Rattle.pdl_machine.specs.declared.fault.Fault.{Fault}
 use Rattle.pdl_machine.specs.declared.fault.Fault.TheVariants.{FlowReads, FlowTarget, StillWatched}
@@ -28,6 +28,10 @@ pub record HasRootAt (flows : Flows) (r at : ℕ) : Type 0 where
   pub is : slice_get flows at ≡ Some flow
   pub root : flow.root ≡ r
 
+-- whether one of these arrays has a flow's root as its root
+abbrev pub have_flow : World → Flows → List ℕ → Bool
+have_flow w flows vs = list_any (λ v. is_flow flows (root_of w v)) vs
+
 -- why an array keeps its dimensions, whatever others it is to get: it is watched, or a flow's root,
 -- or a flow reads it
 abbrev pub kept_shape : Watches → Flows → World → ℕ → Option Fault
@@ -36,11 +40,3 @@ kept_shape watches flows w v =
     else if is_flow flows v then Some FlowTarget
     else if is_read flows w v then Some FlowReads
     else None
-
--- flows with one more
-abbrev pub flows_with : Flows → (root : ℕ) → FormulaTree → Flows
-flows_with flows r f = flows ++ record { root = r; formula = f } ∷ []
-
--- the state with one flow more
-abbrev pub with_flow : State → (root : ℕ) → FormulaTree → State
-with_flow s r f = record s { flows = flows_with s.flows r f }

@@ -55,10 +55,10 @@ pub record HasFlows (e : Engine) (all : Flows) (staying : List ℕ) (first : Eng
   pub flows : AreFlows (arrays_of first) all
   pub lets_go : LetsGo (staying ++ all_read all) first e []
 
--- the arrays are held that formulas name, and others
-pub record IsHeldByFlows (e : Engine) (flows : Flows) : Type 0 where
+-- the arrays are held that formulas name, and others, beside those that leave
+pub record IsHeldByFlows (e : Engine) (flows : Flows) (leaving : List ℕ) : Type 0 where
   pub staying : List ℕ
-  pub held : AreHeld e (staying ++ all_read flows) []
+  pub held : AreHeld e (staying ++ all_read flows) leaving
 
 -- there was such an engine
 pub record HadFlows (e : Engine) (flows : Flows) : Type 0 where

@@ -2,7 +2,6 @@ pub mod Scope
 pub mod Dumping
 pub mod Answers
 pub mod Faults
-pub mod Coding
 pub mod Holding
 pub mod LetGo
 pub mod Flowing

@@ -1,6 +1,6 @@
 -- Assignments that will be made one after another, each to another root: that of a statement, and
 -- those by which flows follow it.
-use Rattle.std.specs.Prelude.{◌≡◌, ℕ, ℤ, ◌==◌, if◌then◌else◌, Bool, true, false, List, [], ◌∷◌, map, Option, Some, None}
+use Rattle.std.specs.Prelude.{◌≡◌, ℕ, ℤ, ◌==◌, if◌then◌else◌, Bool, true, false, List, [], ◌∷◌, map, Option, Some, None, IfSome}
 use Rattle.pdl_flow.specs.declared.formula.Input.{Input}
 use Rattle.pdl_world.specs.Paths.{root_of}
 use Rattle.pdl_world.specs.Sound.{IsLive}
@@ -39,12 +39,16 @@ AreApart w [] = Unit {0}
 AreApart w (c ∷ cs) =
     (c.root ≡ root_of w c.target) × (is_listed (roots_in cs) c.root ≡ false) × AreApart w cs
 
--- each tells what it will write
+-- it tells what it will write, where that is found already
+abbrev pub IsForetold : World → Change → Type 0
+IsForetold w c = IfSome c.foresight (Foretells w c.target c.values.items)
+
+-- each is to an array that is there, and tells so
 abbrev pub AllForetell : World → List Change → Type 0
 AllForetell w [] = Unit {0}
-AllForetell w (c ∷ cs) = Foretells w c.target c.values.items c.foresight × AllForetell w cs
+AllForetell w (c ∷ cs) = IsLive w c.target × IsForetold w c × AllForetell w cs
 
--- The assignments are to different roots, and tell what they will write.
+-- The assignments are to different roots, and tell what they will write where that is found.
 pub record AreForetold (w : World) (cs : List Change) : Type 0 where
   pub apart : AreApart w cs
   pub each : AllForetell w cs
@@ -59,10 +63,11 @@ pub record ArePlanned (e : Engine) (cs : List Change) : Type 0 where
   pub foretold : AreForetold e.world cs
   pub can : AllCanAssign e cs
 
--- The assignment of these values to an array, which can be made, with what it will write.
+-- The assignment of these values to an array, which can be made, with what it will write where that
+-- is found.
 pub record IsChange (e : Engine) (c : Change) : Type 0 where
   pub root : c.root ≡ root_of e.world c.target
-  pub foretells : Foretells e.world c.target c.values.items c.foresight
+  pub foretells : IsForetold e.world c
   pub can : CanAssign e c.target c.values.items
 
 -- The plan of an assignment of these values to v: itself first, and then those by which flows follow

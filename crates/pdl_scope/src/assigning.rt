@@ -1,5 +1,5 @@
 //! Assignments to the arrays of a scope.
-ghost use Rattle.std.specs.Prelude.{◌≡◌, ◌+◌, ◌≤◌, ◌&&◌, true, false, [], ◌∷◌, IfOk, IfSome, OnOk, is_some, length, sum_by};
+ghost use Rattle.std.specs.Prelude.{◌≡◌, ◌+◌, ◌≤◌, ◌&&◌, true, false, [], IfOk, IfSome, OnOk, is_some, length, sum_by};
 ghost use Rattle.pdl_shape.specs.Shape.{size_of};
 ghost use Rattle.pdl_buf.specs.Made.{IsMade};
 ghost use Rattle.pdl_world.specs.Paths.{root_of};
@@ -8,14 +8,14 @@ ghost use Rattle.pdl_world.specs.World.{dims_in, ty_in};
 ghost use Rattle.pdl_engine.specs.Reading.{IsWarm, KeepsViews, read_steps};
 ghost use Rattle.pdl_engine.specs.State.{is_fresh, SameArrays, StayFresh};
 ghost use Rattle.pdl_machine.specs.Arrays.{array_in};
-ghost use Rattle.pdl_machine.specs.Flows.{affected, is_flow};
+ghost use Rattle.pdl_machine.specs.Flows.{followers, is_flow};
 ghost use Rattle.pdl_machine.specs.Following.{AreFlows};
 ghost use Rattle.pdl_machine.specs.Operators.{values_for};
 ghost use Rattle.pdl_machine.specs.State.{AreLive};
 ghost use Rattle.pdl_machine.specs.Watches.{attached, notices};
 ghost use Rattle.pdl_watch.specs.Slots.{lists_of};
 ghost use Rattle.pdl_scope.specs.Answers.{AnswersAs, IfScript};
-ghost use Rattle.pdl_scope.specs.Assigning.{Assigns, CanAssign, GoesInBlocks, IsAlone, followers};
+ghost use Rattle.pdl_scope.specs.Assigning.{Assigns, CanAssign, GoesInBlocks, IsAlone};
 ghost use Rattle.pdl_scope.specs.Costs.{ReadsNoDearer};
 ghost use Rattle.pdl_scope.specs.Plans.{IsPlan};
 ghost use Rattle.pdl_scope.specs.Scope.{engine_of, arrays_of, OnlyReads};
@@ -25,7 +25,7 @@ use crate::flows::KeptFlow;
 use crate::following::{Change, assign_all, is_followed, plan_flows};
 use crate::reading::ready_two;
 use crate::scope::Scope;
-use crate::watching::{foreseen, lookups};
+use crate::watching::{foreseen, lookups, reads_views};
 use pdl_assign::{BLOCK, assign_blocks, can_block};
 use pdl_buf::Steps;
 use pdl_engine::{ArrayId, Engine};
@@ -65,14 +65,16 @@ impl Scope {
         ensures told { let before = self.old.arrays.world in
             let wanted = notices number before self.new.arrays.world self.old.watches in
             IfOk result (λ all. lists_of all.items ≡ wanted) }
-        ensures affected { runs.new ≤ runs.old + length (followers self.old target) }
+        ensures affected { let old = self.old in
+            runs.new ≤ runs.old + length (followers old.arrays.world old.flows target) }
         ensures unrun { IfScript result (runs.new ≡ runs.old) }
         ensures warm { OnOk result (IsWarm (engine_of self.new) target) }
         ensures views { KeepsViews self.new.arrays.world self.old.arrays.world }
-        ensures at_once { let e = engine_of self.old in followers self.old target ≡ []
+        ensures at_once { let e = engine_of self.old in followers e.world self.old.flows target ≡ []
             → is_fresh e target ≡ true → is_fresh e value ≡ true → attached self.old.watches ≡ []
             → steps.new ≤ steps.old + size_of (dims_in e.world target) }
-        ensures counted { let e = engine_of self.old in followers self.old target ≡ [] →
+        ensures counted { let e = engine_of self.old in
+            followers e.world self.old.flows target ≡ [] →
             let watched = sum_by (read_steps e) (attached self.old.watches) in
             steps.new ≤ steps.old + (read_steps e target + read_steps e value) + watched
             + size_of (dims_in e.world target) }
@@ -233,11 +235,13 @@ impl Scope {
         ensures told { let before = self.old.arrays.world in
             let wanted = notices number before self.new.arrays.world self.old.watches in
             IfOk result (λ all. lists_of all.items ≡ wanted) }
-        ensures affected { runs.new ≤ runs.old + length (followers self.old target) }
+        ensures affected { let old = self.old in
+            runs.new ≤ runs.old + length (followers old.arrays.world old.flows target) }
         ensures unrun { IfScript result (runs.new ≡ runs.old) }
         ensures warm { OnOk result (IsWarm (engine_of self.new) target) }
         ensures views { KeepsViews self.new.arrays.world self.old.arrays.world }
-        ensures counted { let e = engine_of self.old in followers self.old target ≡ [] →
+        ensures counted { let e = engine_of self.old in
+            followers e.world self.old.flows target ≡ [] →
             let watched = sum_by (read_steps e) (attached self.old.watches) in
             steps.new ≤ steps.old + (read_steps e target + read_steps e value) + watched
             + size_of (dims_in e.world target) }
@@ -293,14 +297,15 @@ fn planned<L: Ledger, M: Ledger>(
     ensures same { SameArrays engine.old engine.new }
     ensures stay { StayFresh engine.old engine.new }
     ensures runs { let w = engine.old.world in
-        runs.new ≤ runs.old + length (affected w flows.now (root_of w target ∷ [])) }
-    ensures alone { let w = engine.old.world in affected w flows.now (root_of w target ∷ []) ≡ []
+        runs.new ≤ runs.old + length (followers w flows.now target) }
+    ensures alone { followers engine.old.world flows.now target ≡ []
         → (engine.new ≡ engine.old) × (steps.new ≡ steps.old) }
 {
     let many = lookups(engine, watches, flows, target);
     let change = Change::new(engine, target, values, many)?;
     let mut plan = vec![in alloc; change]?;
-    plan_flows(alloc, engine, flows, &mut plan, steps, runs)?;
+    let is_looked_at = !watches.is_empty() || reads_views(engine, flows);
+    plan_flows(alloc, engine, flows, &mut plan, is_looked_at, steps, runs)?;
     Ok(plan)
 }
 

@@ -24,8 +24,7 @@ use crate::scope::Scope;
 use pdl_buf::Steps;
 use pdl_elem::Name;
 use pdl_engine::{ArrayId, Engine, ReshapeFault};
-use pdl_flow::meaning_laws;
-use pdl_machine::Fault;
+use pdl_machine::{Fault, flow_laws};
 use pdl_shape::Dims;
 use pdl_world::{cut_laws, keeping_laws, reshape_laws};
 use std::alloc::AllocError;
@@ -168,7 +167,7 @@ fn cut_apart<L: Ledger>(
 {
     cut_laws();
     keeping_laws();
-    meaning_laws();
+    flow_laws();
     hold_parent(engine, leaving, id);
     engine.sever(id, steps)
 }
@@ -199,7 +198,7 @@ fn laid_anew<L: Ledger>(
 {
     reshape_laws();
     keeping_laws();
-    meaning_laws();
+    flow_laws();
     hold_parent(engine, leaving, id);
     engine.reshape(id, dims, steps)
 }

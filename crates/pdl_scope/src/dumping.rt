@@ -7,7 +7,7 @@ ghost use Rattle.pdl_world.specs.World.{dims_in, elements, ty_in};
 ghost use Rattle.pdl_world.specs.declared.Trans.{Trans};
 ghost use Rattle.pdl_image.specs.Dump.{root_lines, view_lines, world_lines};
 ghost use Rattle.pdl_image.specs.Stems.{index_name, name_at, stem_of};
-ghost use Rattle.pdl_engine.specs.Looks.{numbers_in, trans_in};
+ghost use Rattle.pdl_engine.specs.Looks.{array_numbers, trans_in};
 ghost use Rattle.pdl_engine.specs.Reading.{read_steps};
 ghost use Rattle.pdl_engine.specs.State.{SameArrays, StayFresh};
 ghost use Rattle.pdl_machine.specs.Dumps.{dumped, lines_of, text_within};
@@ -129,7 +129,7 @@ fn free_stem(alloc: Global, names: &Names) -> Result<Name, AllocError>
 /// The numbers of all arrays, the oldest first.
 fn all_numbers(alloc: Global, engine: &Engine) -> Result<Vec<ArrayId>, AllocError>
     requires { IsSound engine.now.world }
-    ensures { IfOk result (λ ids. ids.items ≡ numbers_in engine.now.world) }
+    ensures { IfOk result (λ ids. ids.items ≡ array_numbers engine.now.world) }
 {
     growth_laws();
     newest_laws();
@@ -162,7 +162,7 @@ fn write_arrays<L: Ledger>(
     steps: &mut Steps<L>,
 ) -> Result<(), ScopeFault>
     requires sound { IsSound engine.old.world }
-    requires ids { ids.now ≡ numbers_in engine.old.world }
+    requires ids { ids.now ≡ array_numbers engine.old.world }
     requires room { HasRoom image.old }
     ensures lines { let w = engine.old.world in
         WritesLines image.old image.new (length w) (world_lines image.old.stem (renumber w)) result }
@@ -189,7 +189,7 @@ fn write_array<L: Ledger>(
     steps: &mut Steps<L>,
 ) -> Result<(), ScopeFault>
     requires sound { IsSound engine.old.world }
-    requires ids { ids.now ≡ numbers_in engine.old.world }
+    requires ids { ids.now ≡ array_numbers engine.old.world }
     requires here { at < length ids.now }
     ensures lines { let lines = lines_at image.old.stem engine.old.world at in
         WritesLines image.old image.new 1 lines result }

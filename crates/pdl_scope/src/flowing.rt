@@ -11,18 +11,18 @@ ghost use Rattle.pdl_engine.specs.Reading.{read_steps};
 ghost use Rattle.pdl_engine.specs.State.{State};
 ghost use Rattle.pdl_machine.specs.Arrays.{array_in};
 ghost use Rattle.pdl_machine.specs.Cuts.{is_read};
-ghost use Rattle.pdl_machine.specs.Flows.{Flow, all_read, is_flow, is_reached, without_flow};
+ghost use Rattle.pdl_machine.specs.Flows.{Flow, all_read, flows_with, is_flow, is_reached, without_flow};
 ghost use Rattle.pdl_machine.specs.Following.{AreFlows};
 ghost use Rattle.pdl_machine.specs.Names.{is_full_for, names_limit};
 ghost use Rattle.pdl_machine.specs.Outcome.{new_root};
-ghost use Rattle.pdl_machine.specs.State.{AreLive};
+ghost use Rattle.pdl_machine.specs.State.{AreLive, with_flow};
 ghost use Rattle.pdl_machine.specs.Step.{begun, bind_value, bound};
 ghost use Rattle.pdl_machine.specs.Watches.{attached};
 ghost use Rattle.pdl_scope.specs.Answers.{IfScript, Runs};
-ghost use Rattle.pdl_scope.specs.Flowing.{HasRootAt, RootsRise, flows_with, kept_shape, read_by, with_flow};
+ghost use Rattle.pdl_scope.specs.Flowing.{HasRootAt, RootsRise, have_flow, kept_shape, read_by};
 ghost use Rattle.pdl_scope.specs.Holding.{AreHeld, LetsGo, SameButHolds};
 ghost use Rattle.pdl_scope.specs.LetGo.{GoesOn, HadFlows, HasFlows, IsHeldByFlows, KeepsNeeded, without_at};
-ghost use Rattle.pdl_scope.specs.Scope.{engine_of, machine, reads_limit, times};
+ghost use Rattle.pdl_scope.specs.Scope.{arrays_of, engine_of, machine, reads_limit, times};
 ghost use Rattle.pdl_scope.specs.declared.fault.ScopeFault.TheVariants.{NoMemory};
 
 use crate::fault::ScopeFault;
@@ -35,7 +35,7 @@ use pdl_buf::Steps;
 use pdl_elem::Name;
 use pdl_engine::{ArrayId, Engine, hold_laws};
 use pdl_flow::{Formula, meaning_laws};
-use pdl_machine::{Fault, numbering_laws};
+use pdl_machine::{Fault, flow_laws, numbering_laws, reaching_laws};
 use pdl_world::{breaking_laws, growth_laws, keeping_laws, newest_laws, sweep_laws};
 use std::alloc::AllocError;
 use std::sync::ledger::Ledger;
@@ -105,6 +105,7 @@ impl Scope {
         growth_laws();
         newest_laws();
         meaning_laws();
+        flow_laws();
         self.whole();
         let made = self.copied(value, steps)?;
         let root = self.adopt(made, steps)?;
@@ -203,14 +204,10 @@ fn keep(flows: &mut Vec<KeptFlow>, flow: KeptFlow)
 
 /// Whether an array is the root of a flow.
 fn is_flow(flows: &[KeptFlow], id: ArrayId) -> bool
+    requires { RootsRise flows.now }
     ensures { result ≡ is_flow flows.now id }
 {
-    for flow in flows {
-        if flow.root() == id {
-            return true;
-        }
-    }
-    false
+    place_of_flow(flows, id).is_some()
 }
 
 /// Whether one of these arrays reaches an array by parents.
@@ -248,6 +245,7 @@ pub(crate) fn kept_shape(
 ) -> Option<Fault>
     requires watched { AreLive engine.now.world (attached watches.now) }
     requires read { AreLive engine.now.world (all_read flows.now) }
+    requires rising { RootsRise flows.now }
     ensures { result ≡ kept_shape watches.now flows.now engine.now.world id }
 {
     if is_watched(engine, watches, id) {
@@ -262,17 +260,13 @@ pub(crate) fn kept_shape(
     None
 }
 
-/// The place of a root's flow, if it has one.
+/// The place of a root's flow, if it has one. It is searched for by halves, since roots rise.
 fn place_of_flow(flows: &[KeptFlow], root: ArrayId) -> Option<usize>
+    requires { RootsRise flows.now }
     ensures here { IfSome result (HasRootAt flows.now root) }
     ensures none { IfNone result (is_flow flows.now root ≡ false) }
 {
-    for place in 0..flows.len() {
-        if flows[place].root() == root {
-            return Some(place);
-        }
-    }
-    None
+    flows.binary_search_by_key(&root, |flow| flow.root()).ok()
 }
 
 /// How many arrays leave where one is cut: its parent, and what its flow reads.
@@ -306,13 +300,52 @@ pub(crate) fn end_flow(flows: &mut Vec<KeptFlow>, leaving: &mut Vec<ArrayId>, ro
     }
 }
 
-/// Takes the flows out that nothing needs, from the newest on, and lets what they read go: a flow
-/// is needed whose root is there still.
-pub(crate) fn let_flows_go<L: Ledger>(
+/// Lets arrays go that leave, and then the flows that nothing needs any more, with what they read.
+/// Only an array that has the root of a flow can make it go: where none of these has, flows aren't
+/// asked.
+pub(crate) fn let_all_go<L: Ledger>(
     engine: &mut Engine,
     flows: &mut Vec<KeptFlow>,
+    leaving: &[ArrayId],
     steps: &mut Steps<L>,
 )
+    requires flows { AreFlows (arrays_of engine.old) flows.old.items }
+    requires held { IsHeldByFlows engine.old flows.old.items leaving.now }
+    ensures needed { (staying : List ℕ) →
+        AreHeld engine.old (staying ++ all_read flows.old.items) leaving.now →
+        KeepsNeeded staying engine.old flows.old.items engine.new flows.new.items }
+    ensures goes_on { GoesOn engine.old engine.new steps.old steps.new }
+{
+    sweep_laws();
+    breaking_laws();
+    numbering_laws();
+    reaching_laws();
+    hold_laws();
+    engine.holds_law();
+    let may_go = have_flow(engine, flows, leaving);
+    release_all(engine, leaving, steps);
+    if may_go {
+        let_flows_go(engine, flows, steps);
+    }
+}
+
+/// Whether one of these arrays has a flow's root as its root.
+fn have_flow(engine: &Engine, flows: &[KeptFlow], ids: &[ArrayId]) -> bool
+    requires rising { RootsRise flows.now }
+    requires live { AreLive engine.now.world ids.now }
+    ensures { result ≡ have_flow engine.now.world flows.now ids.now }
+{
+    for id in ids {
+        if is_flow(flows, engine.root(*id)) {
+            return true;
+        }
+    }
+    false
+}
+
+/// Takes the flows out that nothing needs, from the newest on, and lets what they read go: a flow
+/// is needed whose root is there still.
+fn let_flows_go<L: Ledger>(engine: &mut Engine, flows: &mut Vec<KeptFlow>, steps: &mut Steps<L>)
     requires { HadFlows engine.old flows.old.items }
     ensures needed { (staying : List ℕ) → (first : State) →
         HasFlows engine.old flows.old.items staying first →
@@ -323,6 +356,7 @@ pub(crate) fn let_flows_go<L: Ledger>(
     keeping_laws();
     breaking_laws();
     numbering_laws();
+    reaching_laws();
     let mut left = flows.len();
     'going: while left > 0 {
         left -= 1;
@@ -338,7 +372,7 @@ fn let_flow_go<L: Ledger>(
     steps: &mut Steps<L>,
 )
     requires within { place < length flows.old.items }
-    requires held { IsHeldByFlows engine.old flows.old.items }
+    requires held { IsHeldByFlows engine.old flows.old.items [] }
     ensures flows { (f : Flow) → slice_get flows.old.items place ≡ Some f →
         flows.new.items ≡ (if is_some (look engine.old.world f.root) then flows.old.items
         else without_at place flows.old.items) }

@@ -20,7 +20,7 @@ impl Model for KeptFlow {
     ghost use Rattle.std.specs.Prelude.{◌≡◌};
     ghost use Rattle.pdl_flow.specs.Formula.{arrays_in, tree_of};
     ghost use Rattle.pdl_machine.specs.Flows.{Flow};
-    ghost use Rattle.pdl_scope.specs.Coding.{coded_formula};
+    ghost use Rattle.pdl_flow.specs.Coding.{coded_formula};
 
     ghost Value = { Flow };
 

@@ -1,7 +1,6 @@
 //! What flows make of an assignment: a plan of assignments to different roots, each found before
 //! one of them is made (PDL::Dataflow).
-ghost use Rattle.std.specs.Prelude.{◌≡◌, ◌≢◌, None, ◌+◌, ◌≤◌, ◌∷◌, ◌++◌, [], true, false, List, IfOk, OnOk, length, map, option_map, sum_by};
-ghost use Rattle.std.specs.List.{list_any};
+ghost use Rattle.std.specs.Prelude.{◌≡◌, ◌≢◌, None, ◌+◌, ◌≤◌, ◌∷◌, ◌++◌, [], true, false, List, IfOk, IfSome, OnOk, length, map, option_map, sum_by};
 ghost use Rattle.pdl_buf.specs.Made.{IsMade};
 ghost use Rattle.pdl_ops.specs.Answers.{refusal_named};
 ghost use Rattle.pdl_flow.specs.Formula.{arrays_in};
@@ -9,27 +8,27 @@ ghost use Rattle.pdl_world.specs.Paths.{root_of};
 ghost use Rattle.pdl_world.specs.Sound.{IsLive, IsSound};
 ghost use Rattle.pdl_world.specs.Swept.{is_listed};
 ghost use Rattle.pdl_world.specs.World.{assign, dims_in, elements, ty_in};
-ghost use Rattle.pdl_engine.specs.Foresights.{Foretells};
-ghost use Rattle.pdl_engine.specs.Reading.{IsWarm};
+ghost use Rattle.pdl_engine.specs.Foresights.{Foretells, IsForeseen};
+ghost use Rattle.pdl_engine.specs.Reading.{IsWarm, read_steps};
 ghost use Rattle.pdl_engine.specs.State.{SameArrays, StayFresh, is_fresh};
 ghost use Rattle.pdl_machine.specs.Flows.{affected, reads_from};
 ghost use Rattle.pdl_machine.specs.Following.{AreFlows, IsFlow, follow, followed};
 ghost use Rattle.pdl_machine.specs.State.{AreLive};
 ghost use Rattle.pdl_watch.specs.Slots.{StartsWith};
 ghost use Rattle.pdl_scope.specs.Assigning.{CanAssign};
-ghost use Rattle.pdl_scope.specs.Plans.{AllCanAssign, AreApart, AreForetold, ArePlanned, IsChange, NoFlowIn, all_assigned, change_to, input_at, planned, roots_in};
+ghost use Rattle.pdl_scope.specs.Plans.{AllCanAssign, AreApart, ArePlanned, IsChange, NoFlowIn, all_assigned, change_to, input_at, planned, roots_in};
 ghost use Rattle.pdl_scope.specs.Scope.{arrays_of};
 ghost use Rattle.pdl_scope.specs.declared.following.Change.{Change};
 
 use crate::flows::KeptFlow;
 use crate::reading::ready;
-use pdl_buf::{Elements, Made, Steps};
-use pdl_engine::{ArrayId, Engine, Foresight, all_shown};
+use pdl_buf::Steps;
+use pdl_engine::{ArrayId, Engine, Foreseen, Foresight};
 use pdl_flow::{Input, evaluate, meaning_laws};
 use pdl_machine::dumpable_laws;
 use pdl_ops::OpFault;
-use pdl_shape::{copy_dims, elements_of};
-use pdl_world::{assignment_laws, part_laws};
+use pdl_shape::elements_of;
+use pdl_world::{assignment_laws, cut_laws, part_laws};
 use std::alloc::{AllocError, Global};
 use std::sync::ledger::Ledger;
 
@@ -41,13 +40,12 @@ pub(crate) struct Change {
     target: ArrayId,
     /// A value for each position of the target.
     values: Vec<i64>,
-    /// What it will write.
-    foresight: Foresight,
+    /// What it will write, where elements are to be looked up by it.
+    foresight: Option<Foresight>,
 }
 
 impl Change {
-    /// The assignment of these values to an array, where so many elements are to be foreseen by it
-    /// at little cost.
+    /// The assignment of these values to an array, where so many elements are to be looked up by it.
     pub(crate) fn new(
         engine: &Engine,
         target: ArrayId,
@@ -59,7 +57,7 @@ impl Change {
         ensures target { IfOk result (λ c. c.target ≡ target) }
         ensures values { IfOk result (λ c. c.values.items ≡ values.items) }
     {
-        let foresight = engine.foretell(target, &values, lookups)?;
+        let foresight = foretold(engine, target, &values, lookups)?;
         Ok(Change {
             root: engine.root(target),
             target,
@@ -68,12 +66,50 @@ impl Change {
         })
     }
 
-    /// What it will write.
-    pub(crate) fn foresight(&self) -> &Foresight
-        ensures { result.now ≡ self.now.foresight }
+    /// What an array shows before it and after it, and nothing where the array has another root. What
+    /// it will write is found here where it wasn't before.
+    pub(crate) fn foresee<L: Ledger>(
+        &self,
+        engine: &mut Engine,
+        seen: ArrayId,
+        steps: &mut Steps<L>,
+    ) -> Result<Option<Foreseen>, AllocError>
+        requires live { IsLive engine.old.world seen }
+        requires own { IsChange engine.old self.now }
+        ensures value { let w = engine.old.world in
+            IfOk result (IsForeseen w self.now.target self.now.values.items seen) }
+        ensures alike { IfOk result
+            (λ o. IfSome o (λ f. length f.after.items ≡ length f.before.items)) }
+        ensures same { SameArrays engine.old engine.new }
+        ensures stay { StayFresh engine.old engine.new }
+        ensures counted { steps.new ≤ steps.old + read_steps engine.old seen }
     {
-        &self.foresight
+        match &self.foresight {
+            Some(foresight) => engine.foresee(foresight, seen, steps),
+            None => {
+                let foresight = engine.foretell(self.target, &self.values, 0)?;
+                engine.foresee(&foresight, seen, steps)
+            }
+        }
     }
+}
+
+/// What an assignment of these values to an array will write, if elements are to be looked up by it.
+fn foretold(
+    engine: &Engine,
+    target: ArrayId,
+    values: &[i64],
+    lookups: u64,
+) -> Result<Option<Foresight>, AllocError>
+    requires { CanAssign engine.now target values.now }
+    ensures { let w = engine.now.world in
+        IfOk result (λ o. IfSome o (Foretells w target values.now)) }
+{
+    if lookups == 0 {
+        return Ok(None);
+    }
+    let foresight = engine.foretell(target, values, lookups)?;
+    Ok(Some(foresight))
 }
 
 /// The assignment of a plan to an array of this root.
@@ -86,6 +122,18 @@ pub(crate) fn find_change(plan: &[Change], root: ArrayId) -> Option<&Change>
         }
     }
     None
+}
+
+/// Whether a plan has an assignment to an array of this root.
+fn is_altered(plan: &[Change], root: ArrayId) -> bool
+    ensures { result ≡ is_listed (roots_in plan.now) root }
+{
+    for change in plan {
+        if change.root == root {
+            return true;
+        }
+    }
+    false
 }
 
 /// Whether a flow's formula reads an array of a root.
@@ -106,8 +154,8 @@ fn reads_changed(engine: &Engine, flow: &KeptFlow, plan: &[Change]) -> bool
     requires { AreLive engine.now.world (arrays_in flow.now.formula) }
     ensures { result ≡ reads_from engine.now.world flow.now (roots_in plan.now) }
 {
-    for change in plan {
-        if reads_root(engine, flow, change.root) {
+    for read in flow.reads() {
+        if is_altered(plan, engine.root(*read)) {
             return true;
         }
     }
@@ -128,63 +176,62 @@ pub(crate) fn is_followed(engine: &Engine, flows: &[KeptFlow], root: ArrayId) ->
     false
 }
 
-/// The elements that an array has.
-fn elements_now<L: Ledger>(
+/// What an array shows, as a formula's input.
+fn input_now<L: Ledger>(
     alloc: Global,
     engine: &mut Engine,
     id: ArrayId,
     steps: &mut Steps<L>,
-) -> Result<Vec<i64>, AllocError>
+) -> Result<Input, AllocError>
     requires { IsLive engine.old.world id }
-    ensures items { IfOk result (λ es. es.items ≡ elements engine.old.world id) }
+    ensures input { IfOk result (λ i. i ≡ input_at (arrays_of engine.old) id) }
     ensures same { SameArrays engine.old engine.new }
     ensures stay { StayFresh engine.old engine.new }
 {
     ready(engine, id, steps)?;
-    all_shown(alloc, &engine.lend(id))
+    Input::shown(alloc, id, &engine.lend(id), steps)
 }
 
-/// The elements that an array has after an assignment.
-fn elements_after<L: Ledger>(
+/// What an array shows after an assignment, as a formula's input. A root that is assigned to shows
+/// the values: nothing is looked up.
+fn input_after<L: Ledger>(
     alloc: Global,
     engine: &mut Engine,
     change: &Change,
     id: ArrayId,
     steps: &mut Steps<L>,
-) -> Result<Vec<i64>, AllocError>
-    requires { IsLive engine.old.world id }
-    ensures items { let w = engine.old.world in let vs = change.now.values.items in
-        Foretells w change.now.target vs change.now.foresight
-        → IfOk result (λ es. es.items ≡ elements (assign w change.now.target vs) id) }
-    ensures same { SameArrays engine.old engine.new }
-    ensures stay { StayFresh engine.old engine.new }
-{
-    match engine.foresee(&change.foresight, id, steps)? {
-        Some(foreseen) => Ok(foreseen.after),
-        None => elements_now(alloc, engine, id, steps),
-    }
-}
-
-/// The elements that an array has after the assignments of a plan.
-fn elements_planned<L: Ledger>(
-    alloc: Global,
-    engine: &mut Engine,
-    plan: &[Change],
-    id: ArrayId,
-    steps: &mut Steps<L>,
-) -> Result<Vec<i64>, AllocError>
+) -> Result<Input, AllocError>
     requires live { IsLive engine.old.world id }
-    requires plan { AreForetold engine.old.world plan.now }
-    ensures items { let after = all_assigned engine.old.world plan.now in
-        IfOk result (λ es. es.items ≡ elements after id) }
+    requires own { IsChange engine.old change.now }
+    ensures input { let a = arrays_of engine.old in
+        IfOk result (λ i. i ≡ input_at (planned a (change.now ∷ [])) id) }
     ensures same { SameArrays engine.old engine.new }
     ensures stay { StayFresh engine.old engine.new }
 {
+    engine.resting_law();
     assignment_laws();
-    part_laws();
-    match find_change(plan, engine.root(id)) {
-        Some(change) => elements_after(alloc, engine, change, id, steps),
-        None => elements_now(alloc, engine, id, steps),
+    cut_laws();
+    dumpable_laws();
+    if id == change.target && id == change.root {
+        return Input::new(
+            alloc,
+            id,
+            engine.ty(id),
+            engine.dims(id),
+            &change.values,
+            steps,
+        );
+    }
+    match change.foresee(engine, id, steps)? {
+        Some(foreseen) => Input::new(
+            alloc,
+            id,
+            engine.ty(id),
+            engine.dims(id),
+            &foreseen.after,
+            steps,
+        ),
+        None => input_now(alloc, engine, id, steps),
     }
 }
 
@@ -197,22 +244,18 @@ fn input_planned<L: Ledger>(
     steps: &mut Steps<L>,
 ) -> Result<Input, AllocError>
     requires live { IsLive engine.old.world id }
-    requires plan { AreForetold engine.old.world plan.now }
+    requires plan { ArePlanned engine.old plan.now }
     ensures input { let after = planned (arrays_of engine.old) plan.now in
         IfOk result (λ i. i ≡ input_at after id) }
     ensures same { SameArrays engine.old engine.new }
     ensures stay { StayFresh engine.old engine.new }
 {
     assignment_laws();
-    let items = elements_planned(alloc, engine, plan, id, steps)?;
-    Ok(Input {
-        array: id,
-        value: Made {
-            ty: engine.ty(id),
-            dims: copy_dims(engine.dims(id)),
-            elems: Elements::new(items),
-        },
-    })
+    part_laws();
+    match find_change(plan, engine.root(id)) {
+        Some(change) => input_after(alloc, engine, change, id, steps),
+        None => input_now(alloc, engine, id, steps),
+    }
 }
 
 /// What these arrays show after the assignments of a plan, as inputs of a formula.
@@ -224,7 +267,7 @@ fn inputs_planned<L: Ledger>(
     steps: &mut Steps<L>,
 ) -> Result<Vec<Input>, AllocError>
     requires live { AreLive engine.old.world reads.now }
-    requires plan { AreForetold engine.old.world plan.now }
+    requires plan { ArePlanned engine.old plan.now }
     ensures inputs { let after = planned (arrays_of engine.old) plan.now in
         IfOk result (λ is. is.items ≡ map (input_at after) reads.now) }
     ensures same { SameArrays engine.old engine.new }
@@ -280,12 +323,14 @@ fn out_of_memory(fault: OpFault) -> AllocError
     AllocError
 }
 
-/// Adds to a plan the assignment by which a flow follows it.
+/// Adds to a plan the assignment by which a flow follows it. It is told whether elements of the
+/// flow's root may be looked up by slots, or through views.
 fn plan_flow<L: Ledger, M: Ledger>(
     alloc: Global,
     engine: &mut Engine,
     flow: &KeptFlow,
     plan: &mut Vec<Change>,
+    is_looked_at: bool,
     steps: &mut Steps<L>,
     runs: &mut Steps<M>,
 ) -> Result<(), AllocError>
@@ -306,7 +351,11 @@ fn plan_flow<L: Ledger, M: Ledger>(
     let root = flow.root();
     let values = elements_of_flow(alloc, engine, flow, plan, steps, runs)?;
     ready(engine, root, steps)?;
-    let lookups = u64::from(elements_of(engine.dims(root)));
+    let lookups = if is_looked_at {
+        u64::from(elements_of(engine.dims(root)))
+    } else {
+        0
+    };
     let change = Change::new(engine, root, values, lookups)?;
     plan.push(change)?;
     Ok(())
@@ -314,12 +363,14 @@ fn plan_flow<L: Ledger, M: Ledger>(
 
 /// Adds to a plan the assignments by which flows follow it, in the order of the flows: one for each
 /// flow that reads, directly or through flows, what the plan alters. Each of these takes one step
-/// of `runs`; where there is none nothing is looked at but roots.
+/// of `runs`; where there is none nothing is looked at but roots. It is told whether elements of
+/// flows' roots may be looked up by slots, or through views.
 pub(crate) fn plan_flows<L: Ledger, M: Ledger>(
     alloc: Global,
     engine: &mut Engine,
     flows: &[KeptFlow],
     plan: &mut Vec<Change>,
+    is_looked_at: bool,
     steps: &mut Steps<L>,
     runs: &mut Steps<M>,
 ) -> Result<(), AllocError>
@@ -340,7 +391,7 @@ pub(crate) fn plan_flows<L: Ledger, M: Ledger>(
 {
     for flow in flows {
         if reads_changed(engine, flow, plan) {
-            plan_flow(alloc, engine, flow, plan, steps, runs)?;
+            plan_flow(alloc, engine, flow, plan, is_looked_at, steps, runs)?;
         }
     }
     Ok(())

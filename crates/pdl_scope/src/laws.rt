@@ -2,9 +2,9 @@
 ghost use Rattle.pdl_scope.specs.Costs.{GrowingLosesNothing, GrowingMakesNoneDearer, NewRootsAreReady, NewRootsMoveTheirSize, NewViewsAddTheirSize, NewViewsCostTheirSize};
 
 /// What arrays that come do to what it takes to make arrays ready: those that were there take no
-/// more, a new root takes nothing, and a new view what its parent takes, with a step for each of its
-/// elements. And how many elements all arrays have together: a new one adds its own. The call does
-/// nothing when it runs.
+/// more, a new root takes nothing, and a new view what its parent takes, with a step for each element
+/// that it keeps. And how many elements move for all arrays together: a new root adds those that
+/// aren't 0, a new view those that it keeps. The call does nothing when it runs.
 pub fn cost_laws()
     ensures older { GrowingMakesNoneDearer }
     ensures roots { NewRootsAreReady }

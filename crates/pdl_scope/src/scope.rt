@@ -22,18 +22,17 @@ ghost use Rattle.pdl_scope.specs.Costs.{can_call, IsInOrder, MovesWithin};
 
 use crate::calling::kernel_outputs;
 use crate::fault::ScopeFault;
-use crate::flowing::let_flows_go;
+use crate::flowing::let_all_go;
 use crate::flows::KeptFlow;
-use crate::holding::{bind_all, hold_for_name, note, note_some, release_all};
+use crate::holding::{bind_all, hold_for_name, note, note_some};
 use crate::kernels::{DefinedKernel, Kernels};
 use crate::names::Names;
 use pdl_buf::{Elements, Made, Steps};
 use pdl_elem::{Name, Ty};
 use pdl_engine::{ArrayId, Engine, hold_laws};
-use pdl_flow::meaning_laws;
-use pdl_machine::{Fault, numbering_laws};
+use pdl_machine::{Fault, flow_laws, numbering_laws};
 use pdl_shape::Dims;
-use pdl_world::{Trans, breaking_laws, growth_laws, keeping_laws, sweep_laws};
+use pdl_world::{Trans, growth_laws, keeping_laws, sweep_laws};
 use std::alloc::Global;
 use std::marker::Model;
 use std::sync::ledger::Ledger;
@@ -59,7 +58,7 @@ pub struct Scope {
 
 impl Model for Scope {
     ghost use Rattle.std.specs.Coded.{codes};
-    ghost use Rattle.pdl_scope.specs.Coding.{coded_formula};
+    ghost use Rattle.pdl_flow.specs.Coding.{coded_formula};
     ghost use Rattle.pdl_scope.specs.Scope.{names_in, scope_in, state_in, IsHeld, Scope as Seen};
 
     ghost Value = { Seen };
@@ -178,7 +177,7 @@ impl Scope {
     {
         growth_laws();
         keeping_laws();
-        meaning_laws();
+        flow_laws();
         hold_laws();
         self.engine.holds_law();
         self.leaving.reserve(1)?;
@@ -231,7 +230,7 @@ impl Scope {
     {
         growth_laws();
         keeping_laws();
-        meaning_laws();
+        flow_laws();
         hold_laws();
         self.engine.holds_law();
         self.leaving.reserve(1)?;
@@ -309,14 +308,12 @@ impl Scope {
             steps.new ≤ steps.old + written_back e self.new.arrays.world e.world }
     {
         numbering_laws();
-        meaning_laws();
+        flow_laws();
         sweep_laws();
         keeping_laws();
-        breaking_laws();
         self.engine.lazy_law();
-        release_all(&mut self.engine, &self.leaving, steps);
+        let_all_go(&mut self.engine, &mut self.flows, &self.leaving, steps);
         self.leaving.clear();
-        let_flows_go(&mut self.engine, &mut self.flows, steps);
     }
 
     /// How many arrays there are.

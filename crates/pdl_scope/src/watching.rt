@@ -1,11 +1,10 @@
 //! Which arrays the slots of watchers are attached to, and what watchers are to be told.
 ghost use Rattle.std.specs.Option.{option_map_or};
-ghost use Rattle.std.specs.Prelude.{◌≡◌, ◌≢◌, false, ◌+◌, ◌<◌, ◌≤◌, ℕ, ℤ, List, sum_by, [], length, take, IfOk, IfSome, IsSome, is_some, None, Ok, OnOk, OnErr, ◌∷◌};
+ghost use Rattle.std.specs.Prelude.{◌≡◌, false, ◌+◌, ◌<◌, ◌≤◌, sum_by, [], length, take, IfOk, IfSome, IsSome, is_some, None, Ok, OnOk, OnErr, ◌∷◌};
 ghost use Rattle.pdl_world.specs.Sound.{IsLive};
 ghost use Rattle.pdl_world.specs.World.{assign, elements};
 ghost use Rattle.pdl_world.specs.Paths.{root_of};
 ghost use Rattle.pdl_world.specs.Swept.{is_listed};
-ghost use Rattle.pdl_engine.specs.Foresights.{Foretells};
 ghost use Rattle.pdl_engine.specs.Reading.{read_steps};
 ghost use Rattle.pdl_engine.specs.State.{SameArrays, StayFresh};
 ghost use Rattle.pdl_watch.specs.Changes.{changes};
@@ -15,7 +14,7 @@ ghost use Rattle.pdl_machine.specs.Flows.{all_read};
 ghost use Rattle.pdl_machine.specs.State.{AreLive};
 ghost use Rattle.pdl_machine.specs.Watches.{attach, attached, detach, notices, padded, slot_notices, trimmed, watch_of};
 ghost use Rattle.pdl_scope.specs.Answers.{Runs};
-ghost use Rattle.pdl_scope.specs.Plans.{AreForetold, all_assigned, roots_in};
+ghost use Rattle.pdl_scope.specs.Plans.{ArePlanned, IsChange, all_assigned, roots_in};
 ghost use Rattle.pdl_scope.specs.Scope.{machine, slots_limit};
 
 use crate::fault::ScopeFault;
@@ -24,7 +23,7 @@ use crate::following::{Change, find_change};
 use crate::holding::note_some;
 use crate::scope::Scope;
 use pdl_buf::Steps;
-use pdl_engine::{ArrayId, Engine, Foresight, hold_laws};
+use pdl_engine::{ArrayId, Engine, hold_laws};
 use pdl_machine::watching_laws;
 use pdl_shape::elements_of;
 use pdl_watch::{Notice, change_laws, changes};
@@ -183,49 +182,53 @@ pub(crate) fn lookups(
     requires watched { AreLive engine.now.world (attached watches.now) }
     requires read { AreLive engine.now.world (all_read flows.now) }
 {
-    watched_count(engine, watches).saturating_add(read_count(engine, flows, engine.root(target)))
+    let root = engine.root(target);
+    watched_count(engine, watches, root).saturating_add(read_count(engine, flows, root, target))
 }
 
-/// How many elements the arrays of the attached slots have, each slot's counted.
-fn watched_count(engine: &Engine, watches: &[Option<ArrayId>]) -> u64
+/// How many elements the arrays of a root have that slots are attached to, each slot's counted.
+fn watched_count(engine: &Engine, watches: &[Option<ArrayId>], root: ArrayId) -> u64
     requires { AreLive engine.now.world (attached watches.now) }
 {
     let mut count: u64 = 0;
     for watch in watches {
-        count = count.saturating_add(count_of(engine, *watch));
+        count = count.saturating_add(count_watched(engine, *watch, root));
     }
     count
 }
 
-/// How many elements the array of a slot has, and none where it isn't attached.
-fn count_of(engine: &Engine, watch: Option<ArrayId>) -> u64
+/// How many elements the array of a slot has, and none where it isn't attached or has another root.
+fn count_watched(engine: &Engine, watch: Option<ArrayId>, root: ArrayId) -> u64
     requires { IfSome watch (IsLive engine.now.world) }
 {
     match watch {
-        Some(id) => u64::from(elements_of(engine.dims(id))),
+        Some(id) => count_below(engine, id, root),
         None => 0,
     }
 }
 
-/// How many elements the arrays of a root have that formulas of flows read, each place in a
-/// formula counted.
-fn read_count(engine: &Engine, flows: &[KeptFlow], root: ArrayId) -> u64
+/// How many elements are looked up for what formulas of flows read of a root, each place in a formula
+/// counted, where an array of the root is assigned to.
+fn read_count(engine: &Engine, flows: &[KeptFlow], root: ArrayId, target: ArrayId) -> u64
     requires { AreLive engine.now.world (all_read flows.now) }
 {
     let mut count: u64 = 0;
     for flow in flows {
-        count = count.saturating_add(count_all(engine, flow.reads(), root));
+        count = count.saturating_add(count_all(engine, flow.reads(), root, target));
     }
     count
 }
 
-/// How many elements those of these arrays have together that have this root.
-fn count_all(engine: &Engine, ids: &[ArrayId], root: ArrayId) -> u64
+/// How many elements those of these arrays have together that have this root. A root that is the
+/// target has the values, which aren't looked up.
+fn count_all(engine: &Engine, ids: &[ArrayId], root: ArrayId, target: ArrayId) -> u64
     requires { AreLive engine.now.world ids.now }
 {
     let mut count: u64 = 0;
     for id in ids {
-        count = count.saturating_add(count_below(engine, *id, root));
+        if *id != root || root != target {
+            count = count.saturating_add(count_below(engine, *id, root));
+        }
     }
     count
 }
@@ -240,6 +243,30 @@ fn count_below(engine: &Engine, id: ArrayId, root: ArrayId) -> u64
     u64::from(elements_of(engine.dims(id)))
 }
 
+/// Whether a formula of a flow reads an array that isn't a root.
+pub(crate) fn reads_views(engine: &Engine, flows: &[KeptFlow]) -> bool
+    requires { AreLive engine.now.world (all_read flows.now) }
+{
+    for flow in flows {
+        if has_view(engine, flow.reads()) {
+            return true;
+        }
+    }
+    false
+}
+
+/// Whether one of these arrays isn't a root.
+fn has_view(engine: &Engine, ids: &[ArrayId]) -> bool
+    requires { AreLive engine.now.world ids.now }
+{
+    for id in ids {
+        if engine.root(*id) != *id {
+            return true;
+        }
+    }
+    false
+}
+
 /// What the watcher of each slot is to be told of the assignments of a plan, which will be made.
 /// What could be lent can be lent. Where no slot is attached nothing is looked at.
 pub(crate) fn foreseen<L: Ledger>(
@@ -251,7 +278,7 @@ pub(crate) fn foreseen<L: Ledger>(
     steps: &mut Steps<L>,
 ) -> Result<Vec<Vec<Notice>>, AllocError>
     requires watched { AreLive engine.old.world (attached watches.now) }
-    requires plan { AreForetold engine.old.world plan.now }
+    requires plan { ArePlanned engine.old plan.now }
     ensures told { let w = engine.old.world in
         let wanted = notices number w (all_assigned w plan.now) watches.now in
         IfOk result (λ all. lists_of all.items ≡ wanted) }
@@ -281,7 +308,7 @@ fn slot_foreseen<L: Ledger>(
     steps: &mut Steps<L>,
 ) -> Result<Vec<Notice>, AllocError>
     requires watched { IfSome watch (IsLive engine.old.world) }
-    requires plan { AreForetold engine.old.world plan.now }
+    requires plan { ArePlanned engine.old plan.now }
     ensures told { let w = engine.old.world in
         let wanted = slot_notices number w (all_assigned w plan.now) watch in
         IfOk result (λ ns. ns.items ≡ wanted) }
@@ -308,7 +335,7 @@ fn array_foreseen<L: Ledger>(
     steps: &mut Steps<L>,
 ) -> Result<Vec<Notice>, AllocError>
     requires live { IsLive engine.old.world seen }
-    requires plan { AreForetold engine.old.world plan.now }
+    requires plan { ArePlanned engine.old plan.now }
     ensures told { let w = engine.old.world in
         let wanted = changes number (elements w seen) (elements (all_assigned w plan.now) seen) in
         IfOk result (λ ns. ns.items ≡ wanted) }
@@ -322,7 +349,7 @@ fn array_foreseen<L: Ledger>(
     part_laws();
     change_laws();
     match find_change(plan, engine.root(seen)) {
-        Some(change) => changes_foreseen(alloc, engine, number, change.foresight(), seen, steps),
+        Some(change) => changes_foreseen(alloc, engine, number, change, seen, steps),
         None => Ok(Vec::new(alloc)),
     }
 }
@@ -332,23 +359,21 @@ fn changes_foreseen<L: Ledger>(
     alloc: Global,
     engine: &mut Engine,
     number: u64,
-    foresight: &Foresight,
+    change: &Change,
     seen: ArrayId,
     steps: &mut Steps<L>,
 ) -> Result<Vec<Notice>, AllocError>
-    requires { IsLive engine.old.world seen }
+    requires live { IsLive engine.old.world seen }
+    requires own { IsChange engine.old change.now }
     ensures told { let w = engine.old.world in
-        (v : ℕ) → (vs : List ℤ) → Foretells w v vs foresight.now
-        → IfOk result
-        (λ ns. ns.items ≡ changes number (elements w seen) (elements (assign w v vs) seen)) }
+        let after = elements (assign w change.now.target change.now.values.items) seen in
+        IfOk result (λ ns. ns.items ≡ changes number (elements w seen) after) }
     ensures same { SameArrays engine.old engine.new }
     ensures stay { StayFresh engine.old engine.new }
     ensures counted { steps.new ≤ steps.old + read_steps engine.old seen }
-    ensures apart { root_of engine.old.world seen ≢ foresight.now.root
-        → (engine.new ≡ engine.old) × (steps.new ≡ steps.old) }
 {
     change_laws();
-    match engine.foresee(foresight, seen, steps)? {
+    match change.foresee(engine, seen, steps)? {
         Some(foreseen) => changes(alloc, number, &foreseen.before, &foreseen.after),
         None => Ok(Vec::new(alloc)),
     }

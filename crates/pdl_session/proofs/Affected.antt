@@ -1,9 +1,8 @@
 -- Which flows an assignment affects, whatever new arrays came before it.
-use Rattle.std.proofs.Common.{◌≡◌, ℕ, List, [], ◌∷◌, ◌++◌, Bool, true, false, Ok, refl, sym, ap, subst, ◌∙◌, eq-eqb, eqb-true}
+use Rattle.std.proofs.Common.{◌≡◌, ℕ, List, [], ◌∷◌, ◌++◌, Bool, false, Ok, refl, sym, ap, ◌∙◌}
 use Rattle.std.specs.List.{list_any}
 use Rattle.std.specs.Option.{option_map_or}
-use Rattle.std.specs.Prelude.{◌==◌, ◌||◌, if◌then◌else◌}
-use Rattle.pdl_lemmas.specs.Tests.{by_test}
+use Rattle.std.specs.Prelude.{◌||◌, if◌then◌else◌}
 use Rattle.pdl_flow.specs.Formula.{arrays_in}
 use Rattle.pdl_world.specs.Laws.{OlderStay}
 use Rattle.pdl_world.specs.Paths.{root_of}
@@ -17,8 +16,7 @@ use Rattle.pdl_machine.specs.State.{AreLive, IsWhole}
 use Rattle.pdl_machine.specs.Step.{target_in}
 use Rattle.pdl_syntax.specs.Tree.{Tree}
 use Rattle.pdl_scope.specs.Scope.{Scope, machine, Grows}
-use Rattle.pdl_session.specs.Bounds.{is_read_from}
-use Rattle.pdl_session.specs.Evaluations.{affected_by, affected_in}
+use Rattle.pdl_session.specs.Evaluations.{followers_of, followers_in}
 use Rattle.pdl_session.proofs.Grown.{grown_seen}
 use Rattle.pdl_session.proofs.Needs.{read_live}
 
@@ -79,41 +77,10 @@ late_affected older mid late v g whole after live =
     (grown_roots older mid.arrays late.arrays (all_read mid.flows) g.arrays after.sound (read_live mid.arrays mid.flows whole.flows))
 
 -- the flows that a target affects
-pub aimed_affected : (old mid : Scope) (to : Tree) (v : ℕ) → target_in (machine old) to ≡ Ok (mid.arrays, v) → Grows old mid → affected_in old to ≡ affected mid.arrays.world mid.flows (root_of mid.arrays.world v ∷ [])
-aimed_affected old mid to v is g = ap (affected_by old.flows) is ∙ ap (λ (fs : Flows). affected mid.arrays.world fs (root_of mid.arrays.world v ∷ [])) (sym g.flows)
+pub aimed_affected : (old mid : Scope) (to : Tree) (v : ℕ) → target_in (machine old) to ≡ Ok (mid.arrays, v) → Grows old mid → followers_in old to ≡ affected mid.arrays.world mid.flows (root_of mid.arrays.world v ∷ [])
+aimed_affected old mid to v is g = ap (followers_of old.flows) is ∙ ap (λ (fs : Flows). affected mid.arrays.world fs (root_of mid.arrays.world v ∷ [])) (sym g.flows)
 
 -- also once its value came
 pub assigned_affected : OlderStay → (old mid late : Scope) (to : Tree) (v : ℕ) → target_in (machine old) to ≡ Ok (mid.arrays, v) → IsLive mid.arrays.world v → Grows old mid → Grows mid late → IsWhole (machine mid) → IsWhole (machine late)
-    → affected late.arrays.world late.flows (root_of late.arrays.world v ∷ []) ≡ affected_in old to
+    → affected late.arrays.world late.flows (root_of late.arrays.world v ∷ []) ≡ followers_in old to
 assigned_affected older old mid late to v is live g h whole after = late_affected older mid late v h whole after live ∙ sym (aimed_affected old mid to v is g)
-
--- ---- where no flow reads an array of the root
-
-none_before : (p : ℕ → Bool) (us vs : List ℕ) → list_any p (us ++ vs) ≡ false → list_any p us ≡ false
-none_before p [] vs h = refl
-none_before p (u ∷ us) vs h = by_test (p u) (λ is. absurd (let t : true ≡ false = rw is at h in cc)) (λ other. rw other (none_before p us vs (rw other at h)))
-
-none_behind : (p : ℕ → Bool) (us vs : List ℕ) → list_any p (us ++ vs) ≡ false → list_any p vs ≡ false
-none_behind p [] vs h = h
-none_behind p (u ∷ us) vs h = by_test (p u) (λ is. absurd (let t : true ≡ false = rw is at h in cc)) (λ other. none_behind p us vs (rw other at h))
-
--- a formula that reads no array of the root doesn't read from it
-none_read : (w : World) (r : ℕ) (ks : List ℕ) → list_any (λ k. root_of w k == r) ks ≡ false → list_any (λ k. is_listed (r ∷ []) (root_of w k)) ks ≡ false
-none_read w r [] h = refl
-none_read w r (k ∷ ks) h = by_test (root_of w k == r)
-    (λ is. absurd (let t : true ≡ false = rw is at h in cc))
-    (λ other.
-    let apart : (r == root_of w k) ≡ false = by_test (r == root_of w k)
-    (λ same. absurd (let t : (root_of w k == r) ≡ true = eq-eqb (root_of w k) r (sym (eqb-true r (root_of w k) same)) in cc))
-    (λ o. o) in
-    rw apart (none_read w r ks (rw other at h)))
-
-pub unread_alone : (w : World) (flows : Flows) (r : ℕ) → list_any (λ k. root_of w k == r) (all_read flows) ≡ false → affected w flows (r ∷ []) ≡ []
-unread_alone w [] r h = refl
-unread_alone w (f ∷ flows) r h =
-    let here : reads_from w f (r ∷ []) ≡ false = none_read w r (arrays_in f.formula) (none_before (λ k. root_of w k == r) (arrays_in f.formula) (all_read flows) h) in
-    rw here (unread_alone w flows r (none_behind (λ k. root_of w k == r) (arrays_in f.formula) (all_read flows) h))
-
--- an assignment to v affects none
-pub unread_affects_none : (s : Scope) (v : ℕ) → is_read_from s v ≡ false → affected s.arrays.world s.flows (root_of s.arrays.world v ∷ []) ≡ []
-unread_affects_none s v h = unread_alone s.arrays.world s.flows (root_of s.arrays.world v) h

@@ -29,7 +29,7 @@ use Rattle.pdl_scope.specs.Growth.{reads_refl}
 use Rattle.pdl_scope.specs.Scope.{Scope, engine_of, machine, Grows, OnlyReads}
 use Rattle.pdl_machine.specs.Flows.{affected}
 use Rattle.pdl_world.specs.Paths.{root_of}
-use Rattle.pdl_session.proofs.Affected.{late_affected, unread_affects_none}
+use Rattle.pdl_session.proofs.Affected.{late_affected}
 use Rattle.pdl_session.proofs.Grown.{grown_seen}
 use Rattle.pdl_session.specs.Bounds.{AssignsPlainly, EvaluatesPlainly, IsBare, LeavesReadable, MakesRoot, MovesPlainly, PrintsPlainly, plain_count}
 
@@ -106,7 +106,7 @@ assigned_plainly older x [] sign e old mid late new before now then after to fro
               let none_late : attached late.watches ≡ [] = ap attached grown.watches ∙ ap (λ s. attached s.watches) at.same ∙ none in
               let alone : affected late.arrays.world late.flows (root_of late.arrays.world to ∷ []) ≡ [] =
               late_affected older mid late to grown before_it whole live ∙ ap (λ (s : Scope). affected s.arrays.world s.flows (root_of s.arrays.world to ∷ [])) at.same
-              ∙ ap (λ u. affected old.arrays.world old.flows (root_of old.arrays.world u ∷ [])) to_is ∙ unread_affects_none old v unread in
+              ∙ ap (λ u. affected old.arrays.world old.flows (root_of old.arrays.world u ∷ [])) to_is ∙ unread in
               let moved : after ≤ then + size_of (dims_in late.arrays.world to) = at_once alone (grown.stay to fresh_mid) root.fresh none_late in
               let seen : look late.arrays.world to ≡ look old.arrays.world v =
               grown_seen older mid.arrays late.arrays to grown.arrays whole.sound live ∙ ap (λ s. look s.arrays.world to) at.same ∙ ap (look old.arrays.world) to_is in

@@ -37,11 +37,15 @@ use Rattle.pdl_machine.specs.Value.{value_of}
 use Rattle.pdl_scope.specs.declared.fault.ScopeFault.{ScopeFault}
 use Rattle.pdl_scope.specs.declared.fault.ScopeFault.TheVariants.{Script, NoMemory}
 use Rattle.pdl_scope.specs.Answers.{IfScript, IsFault, Prints, Runs}
-use Rattle.pdl_scope.specs.Costs.{IsInOrder, MovesWithin, NewRootsMoveTheirSize, total_size}
+use Rattle.pdl_scope.specs.Costs.{NewRootsMoveTheirSize, total_size}
 use Rattle.pdl_scope.specs.Scope.{Scope, engine_of, machine, Grows}
-use Rattle.pdl_session.specs.Costs.{EvaluatesWithin}
+use Rattle.pdl_session.specs.Came.{evaluated, flow_came, parts_left}
+use Rattle.pdl_session.specs.Costs.{EvaluatesWithin, named_steps}
+use Rattle.pdl_session.specs.Moves.{MovesUpTo}
 use Rattle.pdl_session.proofs.Expressions.{read_le_ready}
+use Rattle.pdl_session.proofs.Moves.{came_up_to, given_refused, stepped_new, stepped_refused}
 use Rattle.pdl_engine.specs.Reading.{read_steps}
+use Rattle.pdl_engine.specs.State.{ready_steps}
 use Rattle.pdl_numbers.specs.Typed.{count_moved}
 use Rattle.pdl_session.specs.Flowing.{Forms}
 use Rattle.pdl_session.proofs.Facts.{first_fault, state_is}
@@ -107,22 +111,36 @@ new_arrays : (x : Result Names Fault) (s new : State) (v : Arrays × ℕ) → Pr
 new_arrays (Ok names) s new v h = ap (λ (t : State). t.arrays) h.0
 new_arrays (Err e) s new v h = absurd h
 
+-- the value came, and no flow
+pub flow_unmade : {T : Type 0} (r : Result T ScopeFault) (f : ScopeFault) (old mid : Scope) (x : List ℕ) (e : Tree) (before after v : ℕ) → IsErrAnd r (λ g. g ≡ f) → value_of old.names old.arrays e ≡ Ok (mid.arrays, v) → IsFault (effect [] (machine old) (flow x e)) f
+    → after + total_size old.arrays.world ≤ before + total_size mid.arrays.world + named_steps old e → MovesUpTo (named_steps old e) old (flow_came old x e) before after r
+flow_unmade r f old mid x e before after v is valued fault h =
+    stepped_refused r f (effect [] (machine old) (flow x e)) (named_steps old e) old (evaluated old.names old.arrays e) before after is fault
+    (came_up_to r (named_steps old e) old (value_of old.names old.arrays e) (parts_left old.names old.arrays e) mid.arrays before after v valued h)
+
+-- the value is refused
+pub flow_unvalued : {T : Type 0} (r : Result T ScopeFault) (f : ScopeFault) (old new : Scope) (x : List ℕ) (e : Tree) (before after : ℕ) → IsErrAnd r (λ g. g ≡ f) → IsFault (value_of old.names old.arrays e) f
+    → EvaluatesWithin (named_steps old e) old new (parts_left old.names old.arrays e) before after (Err f) → MovesUpTo (named_steps old e) old (flow_came old x e) before after r
+flow_unvalued r f old new x e before after is fault h =
+    stepped_refused r f (effect [] (machine old) (flow x e)) (named_steps old e) old (evaluated old.names old.arrays e) before after is (first_fault (value_of old.names old.arrays e) (flowing (machine old) x e) f fault)
+    (given_refused r f old new (value_of old.names old.arrays e) (parts_left old.names old.arrays e) (ready_steps (engine_of new)) (named_steps old e) (named_steps old e) before after is fault (omega arith) h)
+
 -- the elements of the root are among those that came
-pub flowing_within : {T : Type 0} (r : Result T ScopeFault) → NewRootsMoveTheirSize → (old mid new : Scope) (x : List ℕ) (f : FormulaTree) (most before now after v : ℕ) → IsInOrder new → EvaluatesWithin most old mid before now (Ok v)
-    → after ≤ now + (read_steps (engine_of mid) v + count_moved (elements mid.arrays.world v)) → IfScript r ((new ≡ mid) × (after ≡ now))
-    → Runs (bound (begun (machine mid) mid.arrays f) x (new_root mid.arrays (array_in mid.arrays v))) mid new [] [] r → MovesWithin most old new before after r
-flowing_within (Ok t) law old mid new x f most before now after v order first counted refused ran =
+pub flowing_within : {T : Type 0} (r : Result T ScopeFault) → NewRootsMoveTheirSize → (old mid new : Scope) (x : List ℕ) (e : Tree) (f : FormulaTree) (before now after v : ℕ) → value_of old.names old.arrays e ≡ Ok (mid.arrays, v)
+    → EvaluatesWithin (named_steps old e) old mid mid.arrays before now (Ok v) → after ≤ now + (read_steps (engine_of mid) v + count_moved (elements mid.arrays.world v)) → IfScript r ((new ≡ mid) × (after ≡ now))
+    → Runs (bound (begun (machine mid) mid.arrays f) x (new_root mid.arrays (array_in mid.arrays v))) mid new [] [] r → Runs (effect [] (machine old) (flow x e)) old new [] [] r → MovesUpTo (named_steps old e) old (flow_came old x e) before after r
+flowing_within (Ok t) law old mid new x e f before now after v valued first counted refused made ran =
     let m : Made = array_in mid.arrays v in
     let a = with_new mid.arrays (root m.ty m.dims m.elems) in
-    let made : new.arrays ≡ a.0 = new_arrays (bind_name mid.names x a.1) (begun (machine mid) mid.arrays f) (machine new) a ran in
-    let grew = law mid new m a.1 order (ap (λ (b : Arrays). Ok (b, a.1)) (sym made)) in
+    let here : new.arrays ≡ a.0 = new_arrays (bind_name mid.names x a.1) (begun (machine mid) mid.arrays f) (machine new) a made in
+    let grew = law mid new m a.1 (ap (λ (b : Arrays). Ok (b, a.1)) (sym here)) in
     let cost = read_le_ready (engine_of mid) v in
-    omega (arith, first, counted, grew, cost)
-flowing_within (Err (Script e)) law old mid new x f most before now after v order first counted refused ran =
-    let same : total_size new.arrays.world ≡ total_size mid.arrays.world = ap (λ (s : Scope). total_size s.arrays.world) refused.0 in
+    let late : flow_came old x e ≡ new.arrays = stepped_new (effect [] (machine old) (flow x e)) (evaluated old.names old.arrays e) new [] [] ran in
+    subst (λ (b : Arrays). after + total_size old.arrays.world ≤ before + total_size b.world + named_steps old e) (sym late) (omega (arith, first, counted, grew, cost))
+flowing_within {T} (Err (Script s)) law old mid new x e f before now after v valued first counted refused made ran =
     let unmoved : after ≡ now = refused.1 in
-    omega (arith, first, same, unmoved)
-flowing_within (Err NoMemory) law old mid new x f most before now after v order first counted refused ran = tt
+    flow_unmade {T = T} (Err (Script s)) (Script s) old mid x e before after v refl valued ran.0 (omega (arith, first, unmoved))
+flowing_within (Err NoMemory) law old mid new x e f before now after v valued first counted refused made ran = tt
 
 -- ---- the formula of an expression, from those of its parts
 

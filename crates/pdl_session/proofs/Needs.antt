@@ -10,7 +10,7 @@ use Rattle.pdl_world.specs.Swept.{is_listed, sweep, held_itself}
 use Rattle.pdl_world.specs.SweepLaws.{ReachedAreSeenAsBefore}
 use Rattle.pdl_world.specs.World.{World}
 use Rattle.pdl_machine.specs.Arrays.{Arrays}
-use Rattle.pdl_machine.specs.Flows.{Flow, Flows, all_read, is_reached, Needs, with_flow, needs_of}
+use Rattle.pdl_machine.specs.Flows.{Flow, Flows, all_read, is_reached, Needs, needs_with, needs_of}
 use Rattle.pdl_machine.specs.Following.{AreFlows, AreOlder, IsFlow}
 use Rattle.pdl_machine.specs.Laws.{AreGrown, SweepsByFewer}
 use Rattle.pdl_machine.specs.State.{State, AreLive, IsSwept, IsWhole, held, kept, needs, with_world}
@@ -26,7 +26,7 @@ same_behind : (w z : World) (us vs : List ℕ) → HaveSamePaths w z (us ++ vs) 
 same_behind w z [] vs same = same
 same_behind w z (u ∷ us) vs same = same_behind w z us vs same.1
 
-before_flow : (w z : World) (stays : Bool) (f : Flow) (n : Needs) → HaveSamePaths w z (with_flow stays f n).arrays → HaveSamePaths w z n.arrays
+before_flow : (w z : World) (stays : Bool) (f : Flow) (n : Needs) → HaveSamePaths w z (needs_with stays f n).arrays → HaveSamePaths w z n.arrays
 before_flow w z true f n same = same_behind w z (arrays_in f.formula) n.arrays same
 before_flow w z false f n same = same
 
@@ -42,8 +42,8 @@ needs_same w z [] hs same = refl
 needs_same w z (f ∷ flows) hs same =
     let n : Needs = needs_of w flows hs in
     let before : HaveSamePaths w z n.arrays = before_flow w z (is_reached w n.arrays f.root) f n same in
-    ap (λ (m : Needs). with_flow (is_reached z m.arrays f.root) f m) (needs_same w z flows hs before)
-    ∙ ap (λ (stays : Bool). with_flow stays f n) (reached_same w z n.arrays f.root before)
+    ap (λ (m : Needs). needs_with (is_reached z m.arrays f.root) f m) (needs_same w z flows hs before)
+    ∙ ap (λ (stays : Bool). needs_with stays f n) (reached_same w z n.arrays f.root before)
 
 -- and by the flows that stay alone
 needs_again : (w z : World) (flows : Flows) (hs : List ℕ) → HaveSamePaths w z (needs_of w flows hs).arrays → needs_of z (needs_of w flows hs).flows hs ≡ needs_of w flows hs
@@ -56,11 +56,11 @@ needs_again w z (f ∷ flows) hs same = by_stays before (needs_again w z flows h
     before : HaveSamePaths w z n.arrays
     before = before_flow w z (is_reached w n.arrays f.root) f n same
 
-    by_stays : HaveSamePaths w z n.arrays → needs_of z n.flows hs ≡ n → (stays : Bool) → is_reached w n.arrays f.root ≡ stays → needs_of z (with_flow stays f n).flows hs ≡ with_flow stays f n
+    by_stays : HaveSamePaths w z n.arrays → needs_of z n.flows hs ≡ n → (stays : Bool) → is_reached w n.arrays f.root ≡ stays → needs_of z (needs_with stays f n).flows hs ≡ needs_with stays f n
     by_stays paths rest false is = rest
     by_stays paths rest true is =
-        ap (λ (m : Needs). with_flow (is_reached z m.arrays f.root) f m) rest
-        ∙ ap (λ (b : Bool). with_flow b f n) (reached_same w z n.arrays f.root paths ∙ is)
+        ap (λ (m : Needs). needs_with (is_reached z m.arrays f.root) f m) rest
+        ∙ ap (λ (b : Bool). needs_with b f n) (reached_same w z n.arrays f.root paths ∙ is)
 
 -- lists of live arrays
 pub live_behind : (w : World) (us vs : List ℕ) → AreLive w (us ++ vs) → AreLive w vs
@@ -90,7 +90,7 @@ needs_live w [] hs live read = live
 needs_live w (f ∷ flows) hs live read =
     by_stays (is_reached w (needs_of w flows hs).arrays f.root) (needs_live w flows hs live (live_behind w (arrays_in f.formula) (all_read flows) read))
   where
-    by_stays : (stays : Bool) → AreLive w (needs_of w flows hs).arrays → AreLive w (with_flow stays f (needs_of w flows hs)).arrays
+    by_stays : (stays : Bool) → AreLive w (needs_of w flows hs).arrays → AreLive w (needs_with stays f (needs_of w flows hs)).arrays
     by_stays true rest = live_both w (arrays_in f.formula) (needs_of w flows hs).arrays (live_before w (arrays_in f.formula) (all_read flows) read) rest
     by_stays false rest = rest
 
@@ -113,7 +113,7 @@ pub held_needed : (w : World) (flows : Flows) (hs : List ℕ) (v : ℕ) → is_l
 held_needed w [] hs v h = h
 held_needed w (f ∷ flows) hs v h = by_stays (is_reached w (needs_of w flows hs).arrays f.root) (held_needed w flows hs v h)
   where
-    by_stays : (stays : Bool) → is_listed (needs_of w flows hs).arrays v ≡ true → is_listed (with_flow stays f (needs_of w flows hs)).arrays v ≡ true
+    by_stays : (stays : Bool) → is_listed (needs_of w flows hs).arrays v ≡ true → is_listed (needs_with stays f (needs_of w flows hs)).arrays v ≡ true
     by_stays true rest = listed_behind (arrays_in f.formula) (needs_of w flows hs).arrays v rest
     by_stays false rest = rest
 

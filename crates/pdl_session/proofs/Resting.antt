@@ -23,7 +23,7 @@ use Rattle.pdl_syntax.specs.StatementTree.{StatementTree, View, assign, bind, bi
 use Rattle.pdl_syntax.specs.Tree.{Tree, number, named, literal, unary, binary, call}
 use Rattle.pdl_machine.specs.declared.fault.Fault.{Fault}
 use Rattle.pdl_machine.specs.declared.fault.Fault.TheVariants.{FlowTarget}
-use Rattle.pdl_machine.specs.Flows.{Flow, Flows, Needs, is_flow}
+use Rattle.pdl_machine.specs.Flows.{Flow, Flows, Needs, followers, is_flow}
 use Rattle.pdl_machine.specs.Following.{follow, followed, given}
 use Rattle.pdl_machine.specs.Arrays.{Arrays, array_in, with_new}
 use Rattle.pdl_machine.specs.Dumpable.{IsSpelled}
@@ -41,7 +41,7 @@ use Rattle.pdl_scope.specs.declared.fault.ScopeFault.{ScopeFault}
 use Rattle.pdl_scope.specs.Answers.{Prints, Runs}
 use Rattle.pdl_scope.specs.Growth.{unread}
 use Rattle.pdl_scope.specs.Scope.{Scope, engine_of, machine, Grows, OnlyReads}
-use Rattle.pdl_session.specs.Bounds.{AssignsPlainly, LeavesReadable, MovesPlainly, PrintsPlainly, RunsInPlace, is_read_from, plain_count, warm_after}
+use Rattle.pdl_session.specs.Bounds.{AssignsPlainly, LeavesReadable, MovesPlainly, PrintsPlainly, RunsInPlace, plain_count, warm_after}
 use Rattle.pdl_session.specs.Session.{IsAsBefore, IsAtRest, IsKeptWarm}
 use Rattle.pdl_session.proofs.Facts.{state_is}
 use Rattle.pdl_session.proofs.Grown.{grown_look}
@@ -332,7 +332,7 @@ seen_back laws present (Err f) x sign e count u old mid new o n h plain ran =
 pub again : {T : Type 0} → Laws → (present : List Bool) (r : Result T ScopeFault) (st : StatementTree) (warm : Option ℕ) (old mid new : Scope) (before now after : ℕ) (o n : List ℕ) → LetsGo old mid new
     → IfSome warm (IsKeptWarm old) → Runs (effect present (machine old) st) old mid o n r → MovesPlainly st old mid before now → (KeepsViews mid.arrays.world new.arrays.world → after ≡ now)
     → (x : List ℕ) (sign : AssignOp) (e : Tree) (v count : ℕ) → st ≡ assign x [] sign e → plain_count e ≡ Some count → number_of old.names x ≡ Some v → warm ≡ Some v
-    → has_repeats (places_in old.arrays.world (base old.arrays.world v)) ≡ false → attached old.watches ≡ [] → is_read_from old v ≡ false
+    → has_repeats (places_in old.arrays.world (base old.arrays.world v)) ≡ false → attached old.watches ≡ [] → followers old.arrays.world old.flows v ≡ []
     → after ≤ before + (size_of (dims_in old.arrays.world v) + count)
 again laws present r st warm old mid new before now after o n h rest ran moves let_go x sign e v count is plain bound warm_is none unwatched unread =
     let m : IfSome (plain_count e) (λ k. AssignsPlainly x k old mid before now) = subst (λ s. MovesPlainly s old mid before now) is moves in

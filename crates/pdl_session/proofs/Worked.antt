@@ -1,6 +1,5 @@
 -- What a script of late writes moves.
 use Rattle.std.proofs.Common.{◌≡◌, ℕ, zero, suc, ◌+◌, ◌<◌, ◌≤◌, Bool, true, false, List, [], ◌∷◌, Option, Some, None, Ok, Err, refl, sym, ap, subst, ◌∙◌, arith, eq-eqb}
-use Rattle.std.specs.List.{list_any}
 use Rattle.std.specs.Prelude.{pos, ◌==◌, if◌then◌else◌, sum_by, IfSome, codes, get_or}
 use Rattle.pdl_lemmas.specs.Tests.{by_test}
 use Rattle.pdl_slices.specs.Meaning.{slice_of, read_on}
@@ -17,11 +16,11 @@ use Rattle.pdl_syntax.specs.Tree.{number}
 use Rattle.pdl_machine.specs.Names.{number_of}
 use Rattle.pdl_machine.specs.State.{State, kept, no_names, with_world}
 use Rattle.pdl_machine.specs.Step.{Stepped, effect}
-use Rattle.pdl_machine.specs.Flows.{all_read}
+use Rattle.pdl_machine.specs.Flows.{followers}
 use Rattle.pdl_machine.specs.Tidy.{settled}
 use Rattle.pdl_machine.specs.Watches.{attached}
 use Rattle.pdl_scope.specs.Scope.{Scope, engine_of, machine}
-use Rattle.pdl_session.specs.Bounds.{RunsInPlace, is_read_from}
+use Rattle.pdl_session.specs.Bounds.{RunsInPlace}
 use Rattle.pdl_session.specs.Session.{IsKeptWarm, Session}
 use Rattle.pdl_session.specs.WorkedBounds.{Follows, LateWritesMoveLittle, late_writes}
 
@@ -113,8 +112,8 @@ late_writes_move_little s n first follows = (fourth, fifth, sixth)
     unwatched3 : attached (s 3).scope.watches ≡ []
     unwatched3 = subst (λ (t : State). attached t.watches ≡ []) (sym m3) refl
 
-    unread3 : is_read_from (s 3).scope 3 ≡ false
-    unread3 = subst (λ (t : State). list_any (λ k. root_of t.arrays.world k == root_of t.arrays.world 3) (all_read t.flows) ≡ false) (sym m3) refl
+    unread3 : followers (s 3).scope.arrays.world (s 3).scope.flows 3 ≡ []
+    unread3 = subst (λ (t : State). followers t.arrays.world t.flows 3 ≡ []) (sym m3) refl
 
     size3 : size_of (dims_in (s 3).scope.arrays.world 3) ≡ 3
     size3 = subst (λ (t : State). size_of (dims_in t.arrays.world 3) ≡ 3) (sym m3) refl

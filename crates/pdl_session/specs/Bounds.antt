@@ -1,15 +1,13 @@
 -- How much a statement moves at most: an assignment of a number or a list to an array that was
 -- assigned to last, and a print.
-use Rattle.std.specs.Prelude.{◌≡◌, ◌==◌, ℕ, ◌+◌, ◌≤◌, Bool, true, false, List, [], length, Option, Some, None, Result, Ok, IfOk, IfSome}
-use Rattle.std.specs.List.{list_any}
+use Rattle.std.specs.Prelude.{◌≡◌, ℕ, ◌+◌, ◌≤◌, Bool, true, false, List, [], length, Option, Some, None, Result, Ok, IfOk, IfSome}
 use Rattle.pdl_shape.specs.Shape.{size_of}
-use Rattle.pdl_world.specs.Paths.{root_of}
 use Rattle.pdl_world.specs.World.{dims_in}
 use Rattle.pdl_engine.specs.Reading.{IsWarm, KeepsViews, read_steps}
 use Rattle.pdl_engine.specs.State.{is_fresh}
 use Rattle.pdl_syntax.specs.StatementTree.{StatementTree, assign, show}
 use Rattle.pdl_syntax.specs.Tree.{Tree, number, named, literal}
-use Rattle.pdl_machine.specs.Flows.{all_read}
+use Rattle.pdl_machine.specs.Flows.{followers}
 use Rattle.pdl_machine.specs.Names.{number_of}
 use Rattle.pdl_machine.specs.State.{State, kept, with_world}
 use Rattle.pdl_machine.specs.Step.{effect}
@@ -62,11 +60,6 @@ pub record IsBare (x : List ℕ) (old new : Scope) (before after : ℕ) (r : Res
   pub unmoved : after ≡ before
   pub is : IfOk r (λ v. number_of old.names x ≡ Some v)
 
--- whether a flow reads an array of the root of v
-abbrev pub is_read_from : Scope → (v : ℕ) → Bool
-is_read_from s v =
-    let w = s.arrays.world in list_any (λ k. root_of w k == root_of w v) (all_read s.flows)
-
 -- What an assignment of so many elements to a bare name does, whatever it answers: it makes no
 -- view; and where the name's array can be lent, no slot is attached, and no flow reads an array of
 -- its root, it takes at most a step for each element of both sides.
@@ -75,7 +68,7 @@ pub record AssignsPlainly (x : List ℕ) (count : ℕ) (old new : Scope) (before
     pub counted :
         (v : ℕ) → number_of old.names x ≡ Some v → is_fresh (engine_of old) v ≡ true
         → attached old.watches ≡ []
-        → is_read_from old v ≡ false
+        → followers old.arrays.world old.flows v ≡ []
         → after ≤ before + (size_of (dims_in old.arrays.world v) + count)
     pub roots : KeepsViews new.arrays.world old.arrays.world
 

@@ -1,4 +1,5 @@
 pub mod Bounds
+pub mod Came
 pub mod Costs
 pub mod Session
 pub mod Calls

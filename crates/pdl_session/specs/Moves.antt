@@ -2,18 +2,17 @@
 use Rattle.std.specs.Option.{option_map_or}
 use Rattle.std.specs.Prelude.{ℕ, ◌+◌, ◌≤◌, List, Result, Ok, Err, sum_by}
 use Rattle.pdl_shape.specs.Shape.{size_of}
-use Rattle.pdl_world.specs.World.{World, dims_in}
+use Rattle.pdl_world.specs.World.{dims_in}
 use Rattle.pdl_engine.specs.Reading.{read_steps}
 use Rattle.pdl_engine.specs.State.{State as Engine, ready_steps}
 use Rattle.pdl_machine.specs.declared.fault.Fault.{Fault}
 use Rattle.pdl_machine.specs.Arrays.{Arrays}
-use Rattle.pdl_syntax.specs.Tree.{Args, Tree}
+use Rattle.pdl_syntax.specs.Tree.{Tree}
 use Rattle.pdl_machine.specs.Cuts.{dims_given}
-use Rattle.pdl_machine.specs.Names.{bound_to, number_of}
+use Rattle.pdl_machine.specs.Names.{number_of}
 use Rattle.pdl_machine.specs.Outcome.{Given, Valued}
 use Rattle.pdl_machine.specs.Step.{target_in}
 use Rattle.pdl_machine.specs.Then.{and_then}
-use Rattle.pdl_machine.specs.Value.{taken, value_of}
 use Rattle.pdl_machine.specs.Watches.{attached}
 use Rattle.pdl_scope.specs.Costs.{total_size}
 use Rattle.pdl_scope.specs.Scope.{Scope, engine_of, machine}
@@ -35,23 +34,13 @@ abbrev pub wanted_size : Result (List ℕ) Fault → ℕ
 wanted_size (Ok ds) = size_of ds
 wanted_size (Err e) = 0
 
--- the arrays once a value came, before anything is done with it; where the value is refused those
--- that were left
-abbrev pub came : {T : Type 0} → Result (Arrays × T) Fault → (left : World) → World
-came (Ok x) left = x.0.world
-came (Err e) left = left
-
--- It takes at most a step for each element of the arrays that came up to this world, and so many
--- besides. Where memory ran out it says nothing.
-abbrev pub MovesUpTo : {T : Type 0} → (most : ℕ) → (old : Scope) → (late : World)
+-- It takes at most a step for each element that moves for the arrays that came up to these, and so
+-- many besides. Where memory ran out it says nothing.
+abbrev pub MovesUpTo : {T : Type 0} → (most : ℕ) → (old : Scope) → (late : Arrays)
     → (before after : ℕ) → Result T ScopeFault → Type 0
 MovesUpTo most old late before after (Err NoMemory) = Unit {0}
 MovesUpTo most old late before after _ =
-    after + total_size old.arrays.world ≤ before + total_size late + most
-
--- the arguments that give the sizes of a name's array, or that the name is unknown
-abbrev pub sizes_taken : Scope → (name : List ℕ) → Args → Result (Arrays × List Given) Fault
-sizes_taken s x args = and_then (bound_to s.names x) (λ v. taken s.names s.arrays args)
+    after + total_size old.arrays.world ≤ before + total_size late.world + most
 
 -- the most steps that it takes to lay a name's array anew
 abbrev pub reshape_steps : Scope → (name : List ℕ) → Result (Arrays × List Given) Fault → ℕ
@@ -66,8 +55,3 @@ assign_steps s place e =
     (named_steps s place + named_steps s e)
     + (sum_by (read_steps (engine_of s)) (attached s.watches)
     + value_size (target_in (machine s) place))
-
--- the value of an assignment, which comes after its target
-abbrev pub value_after : Scope → (place value : Tree) → Valued
-value_after s place e =
-    and_then (target_in (machine s) place) (λ v. value_of s.names v.0 e)

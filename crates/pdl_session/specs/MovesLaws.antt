@@ -10,13 +10,6 @@ use Rattle.pdl_machine.specs.Step.{effect}
 use Rattle.pdl_scope.specs.Scope.{Scope, engine_of, machine}
 use Rattle.pdl_session.specs.Statements.{MovesAtMost, MovesByForm}
 
--- A statement that ran moved at most what its form says, up to a scope of this state.
-pub record MovesAlone (statement : StatementTree) (old : Scope) (to : State) (before after : ℕ)
-    : Type 0 where
-  pub mid : Scope
-  pub is : machine mid ≡ to
-  pub by_form : MovesByForm {T = Unit {0}} statement old mid before after (Ok tt)
-
 -- a statement that ran, after which no view goes, moves at most what its form says
 abbrev pub KeptViewsCostNothing : Type 0
 KeptViewsCostNothing =
@@ -24,7 +17,7 @@ KeptViewsCostNothing =
     (to : State) (text : List ℕ) → MovesAtMost present statement old new before after (Ok tt)
     → effect present (machine old) statement ≡ Ok (to, text)
     → KeepsViews to.arrays.world (kept to)
-    → MovesAlone statement old to before after
+    → MovesByForm {T = Unit {0}} statement old before after (Ok tt)
 
 -- a print of a bare name whose array is ready, and of its info, moves nothing
 abbrev pub ReadyPrintsMoveNothing : Type 0

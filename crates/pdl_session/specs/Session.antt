@@ -9,13 +9,14 @@ use Rattle.pdl_engine.specs.State.{is_fresh, no_arrays}
 use Rattle.pdl_lexemes.specs.declared.AssignOp.{AssignOp}
 use Rattle.pdl_syntax.specs.StatementTree.{StatementTree, assign, show}
 use Rattle.pdl_syntax.specs.Tree.{Tree, named}
+use Rattle.pdl_machine.specs.Flows.{followers}
 use Rattle.pdl_machine.specs.Names.{nothing_named, number_of}
 use Rattle.pdl_machine.specs.Dumpable.{IsSpelled}
 use Rattle.pdl_machine.specs.State.{State, no_names, IsSwept}
 use Rattle.pdl_machine.specs.Tidy.{tidy}
 use Rattle.pdl_machine.specs.Watches.{attached}
 use Rattle.pdl_scope.specs.Scope.{Scope, engine_of, machine, scope_in}
-use Rattle.pdl_session.specs.Bounds.{is_read_from, plain_count}
+use Rattle.pdl_session.specs.Bounds.{plain_count}
 
 -- What is seen of a session: the machine's state; the scope, in which arrays have the engine's
 -- numbers, with what the engine can lend; the array that the last statement assigned to by a bare
@@ -66,7 +67,7 @@ AssignsAgain s statement before after =
     → number_of s.scope.names x ≡ Some v → s.warm ≡ Some v
     → has_repeats (places_in s.scope.arrays.world (base s.scope.arrays.world v)) ≡ false
     → attached s.scope.watches ≡ []
-    → is_read_from s.scope v ≡ false
+    → followers s.scope.arrays.world s.scope.flows v ≡ []
     → after ≤ before + (size_of (dims_in s.scope.arrays.world v) + n)
 
 -- A bare name is printed. At most as many elements are moved as it takes to read its array: none

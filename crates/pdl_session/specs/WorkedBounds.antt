@@ -1,12 +1,16 @@
 -- A script of late writes, and what each of its statements moves at most, worked by hand.
 use Rattle.std.specs.Prelude.{◌≡◌, ℕ, ◌+◌, ◌<◌, ◌≤◌, pos, false, List, [], ◌∷◌, get_or, codes}
 use Rattle.pdl_engine.specs.State.{IsLazy}
+use Rattle.pdl_elem.specs.declared.BinaryOp.TheVariants.{Add}
 use Rattle.pdl_lexemes.specs.declared.AssignOp.TheVariants.{Set}
 use Rattle.pdl_syntax.specs.StatementTree.{StatementTree, assign, bind, show, vars}
-use Rattle.pdl_syntax.specs.Tree.{named, number}
+use Rattle.pdl_syntax.specs.Tree.{Tree, binary, named, number}
+use Rattle.pdl_machine.specs.State.{no_names}
 use Rattle.pdl_machine.specs.Worked.{sequence_to}
 use Rattle.pdl_machine.specs.WorkedCuts.{called, pdl, whole_numbers}
+use Rattle.pdl_scope.specs.Costs.{total_size}
 use Rattle.pdl_scope.specs.Scope.{engine_of}
+use Rattle.pdl_session.specs.Came.{evaluated}
 use Rattle.pdl_session.specs.Bounds.{LeavesReadable, RunsInPlace, warm_after}
 use Rattle.pdl_session.specs.Session.{AssignsAgain, IsAtRest, PrintsAtMost, Session, no_steps}
 
@@ -47,3 +51,18 @@ LateWritesMoveLittle =
     → ((i : ℕ) → i < 6
     → Follows (s i) (get_or late_writes i vars) (s (i + 1)) (n i) (n (i + 1)))
     → (n 4 ≤ n 3 + 4) × (n 5 ≤ n 4 + 3) × (n 6 ≤ n 5)
+
+-- nosuch(1), which is no call
+abbrev pub no_call : Tree
+no_call = called (codes "nosuch") (number (pos 1) ∷ [])
+
+-- how many elements move at most for the arrays that come until an expression is refused, where there
+-- was none
+abbrev pub moved_until : Tree → ℕ
+moved_until e = total_size (evaluated no_names.names no_names.arrays e).world
+
+-- sequence(10) + nosuch(1) is refused behind the sequence, and nosuch(1) + sequence(10) before it
+abbrev pub RefusedSumsMoveWhatCame : Type 0
+RefusedSumsMoveWhatCame =
+    (moved_until (binary Add (sequence_to 10) no_call) ≡ 11)
+    × (moved_until (binary Add no_call (sequence_to 10)) ≡ 1)

@@ -45,7 +45,8 @@ pub fn number_array<L: Ledger>(
     ensures value { Evaluates (new_root scope.old.arrays (number_made number)) scope.new result }
     ensures grown { Grows scope.old scope.new }
     ensures root { MakesRoot 1 scope.old scope.new steps.old steps.new result }
-    ensures within { EvaluatesWithin 0 scope.old scope.new steps.old steps.new result }
+    ensures within { let s = scope.old in
+        EvaluatesWithin 0 s scope.new s.arrays steps.old steps.new result }
 {
     cost_laws();
     match dims_of(scope.alloc(), &[]) {
@@ -72,8 +73,9 @@ pub fn call<L: Ledger>(
         let wanted = call_value scope.old.names name.now scope.old.arrays seen in
         Evaluates wanted scope.new result }
     ensures grown { Grows scope.old scope.new }
-    ensures within { let most = ready_all scope.old given.now in
-        EvaluatesWithin most scope.old scope.new steps.old steps.new result }
+    ensures within { let s = scope.old in
+        let most = ready_all s given.now in
+        EvaluatesWithin most s scope.new s.arrays steps.old steps.new result }
 {
     match builtin_named(name.bytes()) {
         Some(builtin) => builtin_call(scope, builtin, given, steps),
@@ -148,7 +150,8 @@ fn only_root<L: Ledger>(
     requires { All (λ m. IsMade m.ty m.dims m.elems) outputs.now }
     ensures value { Evaluates (only_root scope.old.arrays outputs.now) scope.new result }
     ensures grown { Grows scope.old scope.new }
-    ensures within { EvaluatesWithin 0 scope.old scope.new steps.old steps.new result }
+    ensures within { let s = scope.old in
+        EvaluatesWithin 0 s scope.new s.arrays steps.old steps.new result }
 {
     cost_laws();
     match outputs {
@@ -172,8 +175,9 @@ pub fn builtin_call<L: Ledger>(
     ensures value { let wanted = builtin_value builtin scope.old.arrays (arguments given.now) in
         Evaluates wanted scope.new result }
     ensures grown { Grows scope.old scope.new }
-    ensures within { let most = ready_all scope.old given.now in
-        EvaluatesWithin most scope.old scope.new steps.old steps.new result }
+    ensures within { let s = scope.old in
+        let most = ready_all s given.now in
+        EvaluatesWithin most s scope.new s.arrays steps.old steps.new result }
 {
     cost_laws();
     scope.in_order();

@@ -1,5 +1,5 @@
 //! The statement that prints a script for the session's kernels, arrays and names.
-ghost use Rattle.std.specs.Prelude.{◌≡◌, ◌≤◌, ◌+◌, [], true, sum_by};
+ghost use Rattle.std.specs.Prelude.{◌≡◌, ◌≤◌, ◌+◌, ◌++◌, [], true, sum_by, OnErr, OnOk};
 ghost use Rattle.pdl_syntax.specs.StatementTree.{dump as dump'};
 ghost use Rattle.pdl_machine.specs.Step.{effect};
 ghost use Rattle.pdl_scope.specs.Dumping.{dump_steps, is_refused_unread};
@@ -8,10 +8,23 @@ ghost use Rattle.pdl_session.specs.Performed.{Performs};
 
 use pdl_buf::Steps;
 use pdl_scope::{Scope, ScopeFault};
+use std::alloc::AllocError;
 use std::sync::ledger::Ledger;
 
-/// Prints the dump. It is made whole before a byte of it is printed, so memory holds it twice at
-/// most. Each root is read once; nothing is, where a slot is attached or names would be too many.
+/// Adds a text to what was printed. Where nothing was, the text is moved there and not copied.
+fn print_whole(out: &mut Vec<u8>, text: Vec<u8>) -> Result<(), AllocError>
+    ensures ok { OnOk result (out.new.items ≡ out.old.items ++ text.items) }
+    ensures err { OnErr result (out.new.items ≡ out.old.items) }
+{
+    if out.is_empty() {
+        *out = text;
+        return Ok(());
+    }
+    out.extend_from_slice(&text)
+}
+
+/// Prints the dump. It is made whole before a byte of it is printed. Each root is read once;
+/// nothing is, where a slot is attached or names would be too many.
 #[tactic(auto, using(crate::proofs::Dumped::dump_performed, crate::proofs::Dumped::dump_refused))]
 pub fn dump<L: Ledger>(
     scope: &mut Scope,
@@ -26,5 +39,5 @@ pub fn dump<L: Ledger>(
         → (scope.new ≡ scope.old) × (steps.new ≡ steps.old) }
 {
     let text = scope.dump(steps)?;
-    Ok(out.extend_from_slice(&text)?)
+    Ok(print_whole(out, text)?)
 }

@@ -8,6 +8,7 @@ ghost use Rattle.pdl_machine.specs.Outcome.{Given as Argument};
 ghost use Rattle.pdl_machine.specs.Value.{value_of, taken};
 ghost use Rattle.pdl_scope.specs.Answers.{AnswersAs, Evaluates};
 ghost use Rattle.pdl_session.specs.Bounds.{EvaluatesPlainly};
+ghost use Rattle.pdl_session.specs.Came.{args_left, parts_left};
 ghost use Rattle.pdl_session.specs.Costs.{argued_steps, given_steps, named_steps, ready_all, EvaluatesWithin, PaysWithin};
 ghost use Rattle.pdl_session.specs.Arguments.{argument, arguments, IsGivenLive, AreGivenLive};
 ghost use Rattle.pdl_scope.specs.Scope.{engine_of, Grows};
@@ -26,8 +27,9 @@ use std::sync::ledger::Ledger;
 
 /// The array of an expression. New arrays may have come also where it is refused. A name takes no
 /// step, and a number or a list at most one for each element; any expression at most one for each
-/// element of the arrays that come, and what it takes to make the arrays of its names ready, which
-/// pays also for making its own ready.
+/// element that moves for the arrays that come, and what it takes to make the arrays of its names
+/// ready, which pays also for making its own ready. Where it is refused, the arrays count that its
+/// parts left.
 #[cycle(eval)]
 pub fn eval<L: Ledger>(
     scope: &mut Scope,
@@ -40,8 +42,10 @@ pub fn eval<L: Ledger>(
     ensures grown { Grows scope.old scope.new }
     ensures plain { let tree = tree_of value.now in
         EvaluatesPlainly tree scope.old scope.new steps.old steps.new result }
-    ensures within { let most = named_steps scope.old (tree_of value.now) in
-        EvaluatesWithin most scope.old scope.new steps.old steps.new result }
+    ensures within { let s = scope.old in
+        let tree = tree_of value.now in
+        let left = parts_left s.names s.arrays tree in
+        EvaluatesWithin (named_steps s tree) s scope.new left steps.old steps.new result }
 {
     calls_are_trees();
     cost_laws();
@@ -97,10 +101,13 @@ pub fn take<'a, L: Ledger>(
         AnswersAs (λ all. (scope.new.arrays, arguments all.items)) wanted result }
     ensures live { IfOk result (λ all. AreGivenLive scope.new.arrays.world all.items) }
     ensures grown { Grows scope.old scope.new }
-    ensures within { let s = scope.old in
+    ensures within { (a : Arrays) (front : Args) →
+        taken scope.old.names a front ≡ Ok (scope.old.arrays, arguments given.entry.items) →
+        let s = scope.old in
         let most = argued_steps s (args_of args.now none) + ready_all s given.entry.items in
         let owed = λ (all : Vec Given Global). ready_all scope.new all.items in
-        PaysWithin owed most s scope.new steps.old steps.new result }
+        let left = args_left s.names a (args_of args.now front) in
+        PaysWithin owed most s scope.new left steps.old steps.new result }
 {
     cost_laws();
     scope.in_order();
@@ -127,9 +134,13 @@ fn take_one<'a, L: Ledger>(
         AnswersAs (λ one. (scope.new.arrays, given ++ argument one ∷ [])) wanted result }
     ensures live { IfOk result (IsGivenLive scope.new.arrays.world) }
     ensures grown { Grows scope.old scope.new }
-    ensures within { let most = argued_steps scope.old (argument_of arg.now none) in
+    ensures within { (a : Arrays) (front : Args) (given : List Argument) →
+        taken scope.old.names a front ≡ Ok (scope.old.arrays, given) →
+        let s = scope.old in
+        let most = argued_steps s (argument_of arg.now none) in
         let owed = given_steps (ready_steps (engine_of scope.new)) in
-        PaysWithin owed most scope.old scope.new steps.old steps.new result }
+        let left = args_left s.names a (argument_of arg.now front) in
+        PaysWithin owed most s scope.new left steps.old steps.new result }
 {
     match arg {
         Arg::Value(value) => Ok(Given::Array(eval(scope, value, steps)?)),

@@ -8,9 +8,10 @@ ghost use Rattle.pdl_syntax.specs.WellMade.{AreArrays, AreArgArrays};
 ghost use Rattle.pdl_machine.specs.Formulas.{formula_of, operand_of};
 ghost use Rattle.pdl_machine.specs.Step.{effect};
 ghost use Rattle.pdl_scope.specs.Answers.{Runs};
-ghost use Rattle.pdl_scope.specs.Costs.{MovesWithin};
 ghost use Rattle.pdl_scope.specs.Scope.{machine};
+ghost use Rattle.pdl_session.specs.Came.{flow_came};
 ghost use Rattle.pdl_session.specs.Costs.{named_steps};
+ghost use Rattle.pdl_session.specs.Moves.{MovesUpTo};
 ghost use Rattle.pdl_session.specs.Flowing.{Forms};
 
 use crate::call::number_type;
@@ -40,7 +41,8 @@ pub fn flow<L: Ledger>(
         let wanted = effect [] (machine scope.old) form in
         Runs wanted scope.old scope.new [] [] result }
     ensures within { let most = named_steps scope.old (tree_of value.now) in
-        MovesWithin most scope.old scope.new steps.old steps.new result }
+        let late = flow_came scope.old name.now (tree_of value.now) in
+        MovesUpTo most scope.old late steps.old steps.new result }
 {
     cost_laws();
     flow_laws();

@@ -1,12 +1,15 @@
 //! Laws of sessions.
 ghost use Rattle.pdl_session.specs.MovesLaws.{KeptViewsCostNothing, ReadyPrintsMoveNothing};
-ghost use Rattle.pdl_session.specs.WorkedBounds.{LateWritesMoveLittle};
+ghost use Rattle.pdl_session.specs.WorkedBounds.{LateWritesMoveLittle, RefusedSumsMoveWhatCame};
 
-/// A script of six statements worked by hand: what the last three move at most, by the clauses of
-/// `Session::step` alone. An assignment to a choice view waits, and is moved once, when the root is
-/// printed. The call does nothing when it runs.
+/// Bounds worked by hand. Of a script of six statements, what the last three move at most, by the
+/// clauses of `Session::step` alone: an assignment to a choice view waits, and is moved once, when
+/// the root is printed (`late`). Of a sum with a refused operand, what comes until then: eleven
+/// elements behind a sequence of ten, and one before it (`refused`). The call does nothing when it
+/// runs.
 pub fn worked_bounds()
-    ensures { LateWritesMoveLittle }
+    ensures late { LateWritesMoveLittle }
+    ensures refused { RefusedSumsMoveWhatCame }
 {}
 
 /// A statement that ran, after which no view goes, moves at most what its form says; so a print of a

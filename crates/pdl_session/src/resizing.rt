@@ -11,7 +11,8 @@ ghost use Rattle.pdl_engine.specs.State.{ready_steps};
 ghost use Rattle.pdl_machine.specs.Cuts.{dims_given};
 ghost use Rattle.pdl_scope.specs.Scope.{engine_of, machine};
 ghost use Rattle.pdl_session.specs.Costs.{argued_steps, read_all};
-ghost use Rattle.pdl_session.specs.Moves.{MovesUpTo, came, reshape_steps, sizes_taken, wanted_size};
+ghost use Rattle.pdl_session.specs.Came.{sizes_came, sizes_taken};
+ghost use Rattle.pdl_session.specs.Moves.{MovesUpTo, reshape_steps, wanted_size};
 ghost use Rattle.pdl_session.specs.Arguments.{arguments, AreGivenLive};
 
 use crate::dims::{dims_for, numbers_in};
@@ -40,7 +41,7 @@ pub fn reshape<L: Ledger>(
     ensures within { let args = args_of sizes.now none in
         let given = sizes_taken scope.old name.now args in
         let most = argued_steps scope.old args + reshape_steps scope.old name.now given in
-        let late = came given scope.new.arrays.world in
+        let late = sizes_came scope.old name.now args in
         MovesUpTo most scope.old late steps.old steps.new result }
 {
     match scope.number_of(name) {

@@ -53,7 +53,7 @@ pub struct Session {
 impl Model for Session {
     ghost use Rattle.std.specs.Coded.{codes};
     ghost use Rattle.pdl_machine.specs.Tidy.{tidy};
-    ghost use Rattle.pdl_scope.specs.Coding.{coded_formula};
+    ghost use Rattle.pdl_flow.specs.Coding.{coded_formula};
     ghost use Rattle.pdl_scope.specs.Scope.{machine};
     ghost use Rattle.pdl_session.specs.Session.{IsAtRest, Session as Seen};
 
@@ -131,8 +131,9 @@ impl Session {
     /// counts the elements that are moved. An assignment of a number or a list to the bare name of
     /// the array that was assigned to last moves at most the elements of both, where no slot is
     /// attached and the array's base has no repeats; a print of a bare name moves what is outdated
-    /// or waits, and nothing where the array can be lent. A refused statement moves no more. By
-    /// `dump` the dump of the state is printed, which makes the state again (`dumps`).
+    /// or waits, and nothing where the array can be lent. So it is also where the statement is
+    /// refused. What any other statement moves is bounded by its form (`bounded`). By `dump` the dump
+    /// of the state is printed, which makes the state again (`dumps`).
     ///
     /// After each statement the root of each flow shows what its formula is (`flows`). `runs`
     /// counts the formulas that are evaluated: by an assignment at most one for each flow that

@@ -12,14 +12,14 @@ ghost use Rattle.pdl_machine.specs.Watches.{notices};
 ghost use Rattle.pdl_print.specs.Pieces.{Begins};
 ghost use Rattle.pdl_watch.specs.Slots.{lists_of, present_in, slots_by};
 ghost use Rattle.pdl_scope.specs.Answers.{IfScript, Runs};
-ghost use Rattle.pdl_scope.specs.Costs.{MovesWithin};
-ghost use Rattle.pdl_session.specs.Costs.{named_steps, ready_all};
-ghost use Rattle.pdl_session.specs.Moves.{MovesUpTo, assign_steps, came, cut_steps, value_after, value_size};
+ghost use Rattle.pdl_session.specs.Came.{evaluated, list_came, sides_evaluated, unbound};
+ghost use Rattle.pdl_session.specs.Costs.{named_steps, ready_all, LeavesWithin};
+ghost use Rattle.pdl_session.specs.Moves.{MovesUpTo, assign_steps, cut_steps, value_size};
 ghost use Rattle.pdl_scope.specs.Scope.{engine_of, machine, slots_limit};
 ghost use Rattle.pdl_session.specs.News.{IsNewsOf};
 ghost use Rattle.pdl_session.specs.declared.news.News.TheVariants.{Nothing};
 ghost use Rattle.pdl_session.specs.Bounds.{LeavesReadable, MovesPlainly, warm_after};
-ghost use Rattle.pdl_session.specs.Evaluations.{RunsAtMost, affected_in};
+ghost use Rattle.pdl_session.specs.Evaluations.{RunsAtMost, followers_in};
 ghost use Rattle.pdl_session.specs.Performed.{Performs};
 ghost use Rattle.pdl_session.specs.Statements.{MovesByForm};
 ghost use Rattle.pdl_session.specs.Arguments.{arguments, AreGivenLive};
@@ -56,8 +56,10 @@ fn bind_value<L: Ledger>(
     requires { AreArrays (tree_of value.now) }
     ensures runs { let valued = value_of scope.old.names scope.old.arrays (tree_of value.now) in
         Runs (bound (machine scope.old) name.now valued) scope.old scope.new [] [] result }
-    ensures within { let most = named_steps scope.old (tree_of value.now) in
-        MovesWithin most scope.old scope.new steps.old steps.new result }
+    ensures within { let s = scope.old in
+        let tree = tree_of value.now in
+        let late = evaluated s.names s.arrays tree in
+        MovesUpTo (named_steps s tree) s late steps.old steps.new result }
 {
     let id = eval(scope, value, steps)?;
     scope.bind(name, id)
@@ -75,11 +77,11 @@ fn bind_severed<L: Ledger>(
     ensures runs { let valued = value_of scope.old.names scope.old.arrays (tree_of value.now) in
         let wanted = and_then valued (bind_severed (machine scope.old) name.now) in
         Runs wanted scope.old scope.new [] [] result }
-    ensures within { let tree = tree_of value.now in
-        let valued = value_of scope.old.names scope.old.arrays tree in
-        let most = named_steps scope.old tree + value_size valued in
-        let late = came valued scope.new.arrays.world in
-        MovesUpTo most scope.old late steps.old steps.new result }
+    ensures within { let s = scope.old in
+        let tree = tree_of value.now in
+        let most = named_steps s tree + value_size (value_of s.names s.arrays tree) in
+        let late = evaluated s.names s.arrays tree in
+        MovesUpTo most s late steps.old steps.new result }
 {
     let id = eval(scope, value, steps)?;
     scope.bind_severed(name, id, steps)
@@ -113,8 +115,10 @@ fn bind_outputs<L: Ledger>(
     ensures runs { let args = arguments given.now in
         let wanted = list_bound (machine scope.old) bound.now function.now (scope.old.arrays, args) in
         Runs wanted scope.old scope.new [] [] result }
-    ensures within { let most = ready_all scope.old given.now in
-        MovesWithin most scope.old scope.new steps.old steps.new result }
+    ensures within { let s = scope.old in
+        let most = ready_all s given.now in
+        let left = unbound s.names bound.now function.now (s.arrays, arguments given.now) in
+        LeavesWithin most s scope.new left steps.old steps.new result }
 {
     if bound.len() != 1 {
         let outputs = several(scope, function, bound.len(), given, steps)?;
@@ -136,7 +140,8 @@ fn bind_list<L: Ledger>(
         let wanted = effect [] (machine scope.old) form in
         Runs wanted scope.old scope.new [] [] result }
     ensures within { let most = named_steps scope.old (tree_of value.now) in
-        MovesWithin most scope.old scope.new steps.old steps.new result }
+        let late = list_came scope.old bound.now (tree_of value.now) in
+        MovesUpTo most scope.old late steps.old steps.new result }
 {
     calls_are_trees();
     match value {
@@ -170,9 +175,8 @@ fn assign_value<L: Ledger, M: Ledger>(
         Runs wanted scope.old scope.new [] [] result }
     ensures within { let place = target to.now.name (map view_of to.now.views.items) in
         let most = assign_steps scope.old place (tree_of value.now) in
-        let valued = value_after scope.old place (tree_of value.now) in
-        let late = came valued scope.new.arrays.world in
-        affected_in scope.old place ≡ [] →
+        let late = sides_evaluated scope.old place (tree_of value.now) in
+        followers_in scope.old place ≡ [] →
         MovesUpTo most scope.old late steps.old steps.new result }
     ensures flowing { let place = map view_of to.now.views.items in
         let statement = assign to.now.name place sign (tree_of value.now) in
@@ -208,8 +212,10 @@ fn show<L: Ledger>(
     steps: &mut Steps<L>,
 ) -> Result<(), ScopeFault>
     requires { AreArrays (tree_of value.now) }
-    ensures within { let most = named_steps scope.old (tree_of value.now) in
-        MovesWithin most scope.old scope.new steps.old steps.new result }
+    ensures within { let s = scope.old in
+        let tree = tree_of value.now in
+        let late = evaluated s.names s.arrays tree in
+        MovesUpTo (named_steps s tree) s late steps.old steps.new result }
     ensures performs { let valued = value_of scope.old.names scope.old.arrays (tree_of value.now) in
         let wanted = and_then valued (λ v. Ok (after_printing (machine scope.old) info v)) in
         Performs wanted scope.old scope.new out.old.items out.new.items result }
@@ -265,7 +271,7 @@ pub fn run<W: Watcher, L: Ledger, M: Ledger>(
         let told = notices number w scope.new.arrays.world scope.new.watches in
         IfOk result (IsNewsOf (statement_of statement.now) told) }
     ensures bounded { let tree = statement_of statement.now in
-        MovesByForm tree scope.old scope.new steps.old steps.new result }
+        MovesByForm tree scope.old steps.old steps.new result }
     ensures flowing { RunsAtMost scope.old (statement_of statement.now) runs.old runs.new }
     ensures unrun { IfScript result (runs.new ≡ runs.old) }
     ensures moves { let statement = statement_of statement.now in
@@ -309,7 +315,7 @@ fn perform<W: Watcher, L: Ledger, M: Ledger>(
         let told = notices number w scope.new.arrays.world scope.new.watches in
         OnOk result (IsNewsOf (statement_of statement.now) told news.new) }
     ensures bounded { let tree = statement_of statement.now in
-        MovesByForm tree scope.old scope.new steps.old steps.new result }
+        MovesByForm tree scope.old steps.old steps.new result }
     ensures flowing { RunsAtMost scope.old (statement_of statement.now) runs.old runs.new }
     ensures unrun { IfScript result (runs.new ≡ runs.old) }
     ensures moves { let statement = statement_of statement.now in

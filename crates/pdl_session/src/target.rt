@@ -13,6 +13,7 @@ ghost use Rattle.pdl_scope.specs.Answers.{Evaluates};
 ghost use Rattle.pdl_engine.specs.State.{ready_steps};
 ghost use Rattle.pdl_scope.specs.Scope.{engine_of, machine, Grows};
 ghost use Rattle.pdl_session.specs.Bounds.{IsBare};
+ghost use Rattle.pdl_session.specs.Came.{evaluated, parts_left};
 ghost use Rattle.pdl_session.specs.Costs.{argued_steps, named_steps, EvaluatesWithin};
 
 use crate::call::call;
@@ -38,9 +39,10 @@ pub fn assigned_to<L: Ledger>(
     ensures unflowed { IfOk result
         (λ id. is_flow scope.new.flows (root_of scope.new.arrays.world id) ≡ false) }
     ensures grown { Grows scope.old scope.new }
-    ensures within { let tree = target' to.now.name (map view_of to.now.views.items) in
-        let most = named_steps scope.old tree in
-        EvaluatesWithin most scope.old scope.new steps.old steps.new result }
+    ensures within { let s = scope.old in
+        let tree = target' to.now.name (map view_of to.now.views.items) in
+        let left = evaluated s.names s.arrays tree in
+        EvaluatesWithin (named_steps s tree) s scope.new left steps.old steps.new result }
     ensures bare { to.now.views.items ≡ [] →
         IsBare to.now.name scope.old scope.new steps.old steps.new result }
 {
@@ -63,9 +65,10 @@ fn target<L: Ledger>(
     ensures value { let tree = target' target.now.name (map view_of target.now.views.items) in
         Evaluates (value_of scope.old.names scope.old.arrays tree) scope.new result }
     ensures grown { Grows scope.old scope.new }
-    ensures within { let tree = target' target.now.name (map view_of target.now.views.items) in
-        let most = named_steps scope.old tree in
-        EvaluatesWithin most scope.old scope.new steps.old steps.new result }
+    ensures within { let s = scope.old in
+        let tree = target' target.now.name (map view_of target.now.views.items) in
+        let left = parts_left s.names s.arrays tree in
+        EvaluatesWithin (named_steps s tree) s scope.new left steps.old steps.new result }
     ensures bare { target.now.views.items ≡ [] →
         IsBare target.now.name scope.old scope.new steps.old steps.new result }
 {
@@ -98,9 +101,13 @@ fn call_on<L: Ledger>(
         let called = call view.now.method (behind of (view_of view.now).1) in
         Evaluates (value_of scope.old.names a called) scope.new result }
     ensures grown { Grows scope.old scope.new }
-    ensures within { let s = scope.old in
+    ensures within { (a : Arrays) (of : Tree) →
+        value_of scope.old.names a of ≡ Ok (scope.old.arrays, id) →
+        let s = scope.old in
         let most = argued_steps s (view_of view.now).1 + ready_steps (engine_of s) id in
-        EvaluatesWithin most scope.old scope.new steps.old steps.new result }
+        let called = call view.now.method (behind of (view_of view.now).1) in
+        let left = parts_left s.names a called in
+        EvaluatesWithin most s scope.new left steps.old steps.new result }
 {
     let first = Vec::from_array(scope.alloc(), [Given::Array(id)])?;
     let given = take(scope, first, &view.args, steps)?;

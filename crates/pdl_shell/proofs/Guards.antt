@@ -14,6 +14,7 @@ use Rattle.pdl_machine.specs.Run.{Progress, Terms, so_far}
 use Rattle.pdl_machine.specs.Watches.{Watches, watch_of}
 use Rattle.pdl_shell.specs.declared.status.Status.{Status}
 use Rattle.pdl_shell.specs.declared.status.Status.TheVariants.{Done, ScriptFault, Usage, SourceFault, SinkFault, WatcherFault, NoMemory}
+use Rattle.pdl_shell.specs.Limits.{read_limit}
 use Rattle.pdl_shell.specs.Outside.{Outside}
 use Rattle.pdl_shell.specs.Answers.{Ending, Gives, IsWhole, IsShort, IsUndisturbed, TakesAtMost, told_by}
 use Rattle.pdl_shell.specs.Taken.{Reads, terms_for}
@@ -39,11 +40,11 @@ front_of all before rest n is few =
         ap (λ (k : ℕ). take k (b ∷ (before ++ rest))) e ∙ ap (λ (xs : List ℕ). b ∷ xs) (by_length before rest n few)
 
 pub no_part_behind : EndedStays → SoFarGrows → (keep : Bool) (refused : List ℕ) (status : Status) (old new : Outside) (before rest : List ℕ) (reads : Reads keep refused status old new)
-    → reads.taken ≡ before ++ rest → (so_far (terms_for keep old.out.slots refused) before).ended ≡ true → length rest < 4096
-no_part_behind stays grows keep refused status old new before rest reads is ended = elim (cases_lt (length rest) 4096) [
+    → reads.taken ≡ before ++ rest → (so_far (terms_for keep old.out.slots refused) before).ended ≡ true → length rest < read_limit
+no_part_behind stays grows keep refused status old new before rest reads is ended = elim (cases_lt (length rest) read_limit) [
   | inl few ↦ few
   | inr many ↦ (let terms : Terms = terms_for keep old.out.slots refused in
-      let more = front_of reads.taken before rest 4096 is many in
+      let more = front_of reads.taken before rest read_limit is many in
       let e : (so_far terms (before ++ more.0)).ended ≡ true = ends_still stays grows terms before more.0 ended in
       absurd (true≢false (sym e ∙ ap (λ (xs : List ℕ). (so_far terms xs).ended) (sym more.1) ∙ reads.soon)))
 ]

@@ -15,7 +15,7 @@ use Rattle.pdl_shell.specs.declared.words.Command.TheVariants.{Run, Generate}
 use Rattle.pdl_shell.specs.Outside.{Outlets, Outside}
 use Rattle.pdl_shell.specs.Answers.{CameToItsEnd, HasReason, CanAnswer, Gives, Ending, AllQuiet, IsWhole, IsShort, SlotHears, ending_on, status_at_end}
 use Rattle.pdl_machine.specs.Watches.{is_present}
-use Rattle.pdl_machine.specs.Run.{Terms, run, so_far}
+use Rattle.pdl_machine.specs.Run.{Terms, refused_limit, run, so_far}
 use Rattle.pdl_machine.specs.RunLaws.{RefusedAreGiven, RefusedRise, RefusedAreFew}
 use Rattle.pdl_shell.specs.Summary.{unwatched}
 use Rattle.pdl_shell.specs.Taken.{Reads, terms_for}
@@ -88,7 +88,7 @@ refused_read given rising few keep refused status old new reads =
       taken = reads.all;
       came = subst (λ (ns : List ℕ). All (λ n. n ≤ (run terms reads.taken).count) ns) reads.met (λ k d lt. (given terms reads.taken k d lt).1);
       rise = rising_read rising keep refused status old new reads;
-      few = subst (λ (ns : List ℕ). length ns ≤ 64) reads.met (few terms reads.taken);
+      few = subst (λ (ns : List ℕ). length ns ≤ refused_limit) reads.met (few terms reads.taken);
     }
 
 pub done_reads : (keep : Bool) (refused : List ℕ) (old new : Outside) (rest : List ℕ) → new.left ≡ Some rest → Reads keep refused Done old new → rest ≡ []

@@ -18,6 +18,7 @@ use Rattle.pdl_shell.specs.declared.runner.Runner.{Runner}
 use Rattle.pdl_shell.specs.declared.stop.Stop.{Stop}
 use Rattle.pdl_shell.specs.declared.stop.Stop.TheVariants.{Source, Sink, Watcher, NoMemory as NoRoom}
 use Rattle.pdl_shell.specs.declared.status.Status.TheVariants.{SourceFault}
+use Rattle.pdl_shell.specs.Limits.{read_limit}
 use Rattle.pdl_shell.specs.Outside.{Outlets, Outside, NoneFailed}
 use Rattle.pdl_shell.specs.Answers.{IsShort, HasReason, TakesAtMost, ending_of_run, status_at_end, status_after, status_of_stop}
 use Rattle.pdl_shell.specs.Stops.{Fails, HasCauses, Leaves}
@@ -78,10 +79,10 @@ front_running grows stays terms xs ys running =
     let same : so_far terms (xs ++ ys) ≡ so_far terms xs = grown.1 ∙ stays terms (so_far terms xs) grown.0 ended in
     both_ways _ running (ap (λ p. p.ended) same ∙ ended))
 
-soon_after : SoFarGrows → EndedStays → (terms : Terms) (bytes part : List ℕ) → (so_far terms bytes).ended ≡ false → length part ≤ 4096
+soon_after : SoFarGrows → EndedStays → (terms : Terms) (bytes part : List ℕ) → (so_far terms bytes).ended ≡ false → length part ≤ read_limit
     → StopsSoon terms (bytes ++ part)
 soon_after grows stays terms bytes part running short =
-    let k : ℕ = length (bytes ++ part) - 4096 in
+    let k : ℕ = length (bytes ++ part) - read_limit in
     let within : k ≤ length bytes = grind (arith, length-append {A = ℕ}) in
     let front : take k (bytes ++ part) ≡ take k bytes = take-append-le k bytes part within in
     let split : (so_far terms (take k bytes ++ drop k bytes)).ended ≡ false =
@@ -121,14 +122,14 @@ pub record Took (count : ℕ) (now : Runner) (left_now left_then : Option (List 
   pub near : count ≤ script_limit
   pub running : now.ended ≡ false
   pub sized : length part ≡ size
-  pub short : size ≤ 4096
+  pub short : size ≤ read_limit
   pub within : count + size ≤ script_limit + 1
   pub is : handed ≡ take (script_limit - count) part
   pub more : Consumes left_now left_then part
 
 pub took : (count size within most : ℕ) (into array : List ℕ) (now : Runner) (left_now left_then : Option (List ℕ))
     → count ≤ 16777216 → now.ended ≡ false
-    → size ≤ length into → size ≡ length (take size into) → most ≡ min (16777217 - count) 4096 → length into ≡ length (take most array)
+    → size ≤ length into → size ≡ length (take size into) → most ≡ min (16777217 - count) read_limit → length into ≡ length (take most array)
     → within ≡ min size (16777216 - count) → Consumes left_now left_then (take size into)
     → Took count now left_now left_then (take size into) (take within (into ++ drop most array)) size
 took count size within most into array now left_now left_then near running fits sized is_most room is_within more =
@@ -431,7 +432,7 @@ module _ (laws : Laws) (first now : Runner) (left : Option (List ℕ)) (out : Ou
       (step : Took count now left_now left_then part handed size) where
     pub soon_taken : StopsSoon terms (came.bytes ++ part)
     soon_taken =
-        let fits : length part ≤ 4096 = rw step.sized step.short in
+        let fits : length part ≤ read_limit = rw step.sized step.short in
         soon_after grows stays terms came.bytes part (ap (λ p. p.ended) (so_far_is step.near) ∙ stood.follows.ended ∙ step.running) fits
 
     -- the run of a script that begins with all of these bytes

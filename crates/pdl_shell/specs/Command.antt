@@ -4,6 +4,7 @@ use Rattle.std.specs.Char.{is_ascii_digit}
 use Rattle.std.specs.List.{starts_with, list_all}
 use Rattle.std.specs.Str.{bytes_eq}
 use Rattle.pdl_machine.specs.Step.{newline}
+use Rattle.pdl_shell.specs.Limits.{rounds_limit}
 use Rattle.pdl_shell.specs.declared.words.Command.{Command}
 use Rattle.pdl_shell.specs.declared.words.Command.TheVariants.{Run, Generate}
 
@@ -22,9 +23,9 @@ value_of digits = fold (λ value digit. value * 10 + (digit - 48)) 0 digits
 abbrev pub is_number_of_rounds : (word : List ℕ) → Bool
 is_number_of_rounds word =
     nat_lt 0 (length word) && nat_le (length word) 4 && list_all is_ascii_digit word
-    && nat_le (value_of word) 2000
+    && nat_le (value_of word) rounds_limit
 
--- a number of rounds: one to four decimal digits, at most 2000
+-- a number of rounds: one to four decimal digits, at most the limit of rounds
 abbrev pub generating : (keep_going : Bool) → (word : List ℕ) → Option Command
 generating keep word = if is_number_of_rounds word then Some (Generate keep (value_of word))
     else None

@@ -9,7 +9,8 @@ use Rattle.pdl_watch.specs.declared.notice.Notice.{Notice}
 use Rattle.pdl_watch.specs.Watched.{Watched}
 use Rattle.pdl_watch.specs.Slots.{slot, notices_of, StartsWith}
 use Rattle.pdl_machine.specs.Watches.{watch_of}
-use Rattle.pdl_machine.specs.Run.{run, so_far}
+use Rattle.pdl_machine.specs.Run.{refused_limit, run, so_far}
+use Rattle.pdl_shell.specs.Limits.{read_limit}
 use Rattle.pdl_shell.specs.Outside.{Outside}
 use Rattle.pdl_shell.specs.Answers.{CameToItsEnd, HasReason, Gives, CanAnswer, TakesAtMost, IsUndisturbed, Ending, ending_of_run, told_by, slots_after}
 use Rattle.pdl_shell.specs.Taken.{Reads, terms_for}
@@ -75,14 +76,14 @@ SourceFaultsLeave = (keep : Bool) (refused : List ℕ) (old new : Outside) (befo
     Reads keep refused SourceFault old new → OfWholeStatements keep refused old new before after
 
 -- Whatever the status, the refused statements are ones of the bytes taken, in the order in which
--- they came: their numbers rise, and are at most 64.
+-- they came: their numbers rise, and there are no more than a run may have.
 pub record AreOfBytes (keep : Bool) (refused : List ℕ) (old new : Outside) : Type 0 where
   pub bytes : List ℕ
   pub taken : Consumes old.left new.left bytes
   pub came : let bytes_run = run (terms_for keep old.out.slots refused) bytes in
       All (λ number. number ≤ bytes_run.count) refused
   pub rise : IsStrictlyIncreasing refused
-  pub few : length refused ≤ 64
+  pub few : length refused ≤ refused_limit
 
 abbrev pub RefusedAreRead : Type 0
 RefusedAreRead = (keep : Bool) (refused : List ℕ) (status : Status) (old new : Outside) →
@@ -174,12 +175,12 @@ OthersTellAFront = (status : Status) (e : Ending) (old new : Outside) (k : ℕ)
     slot old.out.slots k ≡ Some before → slot new.out.slots k ≡ Some after →
     HeardOrEnded (notices_of e.told k) (watch_of e.watches k) before after
 
--- fewer than 4,096 bytes are taken behind those that end the run
+-- fewer bytes than are read at once are taken behind those that end the run
 abbrev pub NoPartIsReadBehind : Type 0
 NoPartIsReadBehind = (keep : Bool) (refused : List ℕ) (status : Status) (old new : Outside)
     (front rest : List ℕ) (reads : Reads keep refused status old new) →
     reads.taken ≡ front ++ rest →
-    (so_far (terms_for keep old.out.slots refused) front).ended ≡ true → length rest < 4096
+    (so_far (terms_for keep old.out.slots refused) front).ended ≡ true → length rest < read_limit
 
 -- of the bytes that the source has, at most so many are taken
 abbrev pub FewAreTaken : Type 0

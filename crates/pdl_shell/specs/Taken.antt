@@ -3,6 +3,7 @@ use Rattle.std.specs.Prelude.{◌≡◌, ℕ, ◌-◌, ⊤, ◌⊎◌, List, len
 use Rattle.std.specs.Io.KnownBytes.{Appends, Consumes, IsAtEnd}
 use Rattle.pdl_watch.specs.Slots.{Slots, present_in}
 use Rattle.pdl_machine.specs.Run.{Terms, Progress, run, so_far}
+use Rattle.pdl_shell.specs.Limits.{read_limit}
 use Rattle.pdl_shell.specs.Outside.{Outside}
 use Rattle.pdl_shell.specs.Answers.{ending_of_run, told_by}
 use Rattle.pdl_shell.specs.declared.status.Status.{Status}
@@ -13,10 +14,10 @@ abbrev pub terms_for : (keep : Bool) → Slots → (refused : List ℕ) → Term
 terms_for keep slots refused =
     record { keep = keep; present = present_in slots; refused = refused }
 
--- all but the last 4,096 of the bytes taken don't end the run: so fewer than 4,096 were
--- taken behind the one that completes the statement that ends it
+-- all bytes taken but the last ones, as many as are read at once, don't end the run: so fewer than
+-- that were taken behind the one that completes the statement that ends it
 abbrev pub StopsSoon : Terms → (taken : List ℕ) → Type 0
-StopsSoon terms taken = (so_far terms (take (length taken - 4096) taken)).ended ≡ false
+StopsSoon terms taken = (so_far terms (take (length taken - read_limit) taken)).ended ≡ false
 
 -- What a status says of how far the run on these terms has come by the bytes taken: Done, that the
 -- source is at its end; ScriptFault, that it is, or that these bytes end the run; SourceFault, that

@@ -4,6 +4,7 @@
 
 mod generated;
 mod laws;
+mod limits;
 mod line;
 mod mark;
 mod output;
@@ -19,6 +20,7 @@ mod summary;
 mod words;
 
 pub use laws::{headline_laws, worked_statuses};
+pub use limits::{MOST_READ, MOST_ROUNDS, limits_law};
 pub use pdl_scope::MOST_SLOTS;
 pub use refused::Refused;
 pub use run::run_shell;

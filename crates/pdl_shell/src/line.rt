@@ -1,12 +1,16 @@
 //! The line that says why a statement wasn't run.
 ghost use Rattle.std.specs.Prelude.{◌≡◌, ◌≤◌, length};
 ghost use Rattle.pdl_machine.specs.Run.{report};
+ghost use Rattle.pdl_shell.specs.declared.line.TheConstants.{LONGEST_REASON};
 
 use itoa::Buffer;
 use std::marker::Model;
 
 // How many bytes a line has at most.
 const ROOM: usize = 128;
+
+// How many bytes a reason has at most.
+const LONGEST_REASON: usize = 64;
 
 // A line, which stands in place and takes no memory.
 #[derive(Drop)]
@@ -61,7 +65,7 @@ impl Line {
 // The line that says for this reason that the statement wasn't run which begins on this line of the
 // script.
 pub(crate) fn report(number: u64, reason: &str) -> Line
-    requires { length reason.now ≤ 64 }
+    requires { length reason.now ≤ LONGEST_REASON }
     ensures { result ≡ report number reason.now }
 {
     let mut buffer = Buffer::new();

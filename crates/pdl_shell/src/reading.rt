@@ -12,6 +12,7 @@ ghost use Rattle.pdl_shell.specs.Stops.{HasCauses};
 ghost use Rattle.pdl_shell.specs.Taken.{Reads, terms_for};
 
 use crate::laws::course_laws;
+use crate::limits::MOST_READ;
 use crate::runner::Runner;
 use crate::stop::Stop;
 use pdl_buf::Steps;
@@ -20,9 +21,6 @@ use pdl_lex::SCRIPT_LIMIT;
 use pdl_machine::{run_laws, so_far_laws};
 use pdl_watch::Watcher;
 use std::sync::ledger::Ledger;
-
-// The most bytes that are asked for at once.
-const PART: usize = 4096;
 
 // Takes the source's bytes in parts, and runs each statement when its last byte is
 // there: to the end of the source, or until the run is ended, or up to and with the byte past
@@ -74,10 +72,10 @@ pub(crate) fn read_parts<S: Source, K: Sink, W: Watcher, L: Ledger, M: Ledger>(
     course_laws();
     run_laws();
     so_far_laws();
-    let mut part = [0u8; PART];
+    let mut part = [0u8; MOST_READ];
     let mut taken = 0;
     'reading: while !runner.is_ended() && taken <= SCRIPT_LIMIT {
-        let most = (SCRIPT_LIMIT + 1 - taken).min(PART);
+        let most = (SCRIPT_LIMIT + 1 - taken).min(MOST_READ);
         let count = match source.read(&mut part[..most]) {
             Ok(count) => count,
             Err(_) => return Err(Stop::Source),

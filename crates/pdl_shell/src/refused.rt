@@ -35,7 +35,7 @@ impl Refused {
         }
     }
 
-    /// Their numbers, at most 64.
+    /// Their numbers, at most `MOST_REFUSED`.
     pub fn numbers(&self) -> &[u64]
         ensures same { result.now ≡ self.now }
         ensures few { length result.now ≤ refused_limit }

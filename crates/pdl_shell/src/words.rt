@@ -3,6 +3,8 @@ ghost use Rattle.std.specs.Prelude.{◌≡◌, map};
 ghost use Rattle.std.specs.String.{string_bytes};
 ghost use Rattle.pdl_shell.specs.Command.{is_keep_going, is_generate, value_of, is_number_of_rounds, generating, generating_joined, command_of_one, command_of_two, command_of_three, command_of};
 
+use crate::limits::MOST_ROUNDS;
+
 // What the words ask for.
 #[derive(Clone, Copy)]
 pub(crate) enum Command {
@@ -21,8 +23,6 @@ const GENERATE: &[u8] = b"--generate";
 
 // What stands before a number of rounds in the same word.
 const GENERATE_EQUALS: &[u8] = b"--generate=";
-
-const MOST_ROUNDS: u16 = 2000;
 
 fn is_keep_going(word: &[u8]) -> bool
     ensures { result ≡ is_keep_going word.now }

@@ -2,14 +2,15 @@
 ghost use Rattle.std.specs.Prelude.{◌≡◌, ◌<◌, pos, IfOk};
 ghost use Rattle.pdl_elem.specs.declared.BinaryOp.TheVariants.{Add, Mul};
 ghost use Rattle.pdl_elem.specs.declared.Ty.TheVariants.{Long};
-ghost use Rattle.pdl_flow.specs.Formula.{IsFormula, array, binary, number, tree_of};
-ghost use Rattle.pdl_flow.specs.Inputs.{AreInputs};
+ghost use Rattle.pdl_buf.specs.Made.{IsMade};
+ghost use Rattle.pdl_flow.specs.Formula.{array, binary, number, tree_of};
 
 use crate::arrays::{is_array, shape};
-use pdl_buf::{Elements, Made, new_steps};
+use pdl_buf::{Made, new_steps};
 use pdl_elem::{BinaryOp, Ty};
 use pdl_flow::{Formula, Input, evaluate};
 use pdl_ops::OpFault;
+use pdl_shape::Dims;
 use std::alloc::{AllocError, Global};
 use std::marker::Brand;
 use std::process::Abort;
@@ -27,11 +28,12 @@ fn twice_and_one(alloc: Global) -> Result<Formula, AllocError>
     Ok(Formula::Binary(BinaryOp::Add, twice, one))
 }
 
-// A formula's array, whose steps and runs are counted in ledgers.
+// What the formula is of an array 7 of longs, with steps and runs that are counted in ledgers.
 fn evaluated<L: Ledger, M: Ledger>(
     alloc: Global,
     formula: &Formula,
-    inputs: &[Input],
+    dims: &Dims,
+    elems: &[i64],
     steps: Blank,
     runs: Blank,
 ) -> Result<Made, OpFault>
@@ -41,20 +43,28 @@ fn evaluated<L: Ledger, M: Ledger>(
     requires runs_name { runs.name ≡ M.name }
     requires runs_parts { runs.parts ≡ M.parts }
     requires some_runs { 0 < runs.parts }
-    requires formula { IsFormula (tree_of formula.now) }
-    requires inputs { AreInputs inputs.now (tree_of formula.now) }
+    requires formula { tree_of formula.now
+        ≡ binary Add (binary Mul (array 7) (number Long (pos 2))) (number Long (pos 1)) }
+    requires made { IsMade Long dims.now elems.now }
 {
     let mut steps = new_steps::<L>(steps);
     let mut runs = new_steps::<M>(runs);
-    evaluate(alloc, formula, inputs, &mut steps, &mut runs)
+    let input = Input::new(alloc, 7, Ty::Long, dims, elems, &mut steps)?;
+    evaluate(alloc, formula, &[input], &mut steps, &mut runs)
 }
 
 // The same in new ledgers.
-fn evaluated_anew(alloc: Global, formula: &Formula, inputs: &[Input]) -> Result<Made, OpFault>
-    requires formula { IsFormula (tree_of formula.now) }
-    requires inputs { AreInputs inputs.now (tree_of formula.now) }
+fn evaluated_anew(
+    alloc: Global,
+    formula: &Formula,
+    dims: &Dims,
+    elems: &[i64],
+) -> Result<Made, OpFault>
+    requires formula { tree_of formula.now
+        ≡ binary Add (binary Mul (array 7) (number Long (pos 2))) (number Long (pos 1)) }
+    requires made { IsMade Long dims.now elems.now }
 {
-    evaluated::<Brand, Brand>(alloc, formula, inputs, Blank::new(1), Blank::new(1))
+    evaluated::<Brand, Brand>(alloc, formula, dims, elems, Blank::new(1), Blank::new(1))
 }
 
 // Of the longs 0, 5 and 2 it is 1, 11 and 5.
@@ -62,13 +72,8 @@ fn of_three(rt: &impl Abort, alloc: Global, formula: &Formula)
     requires { tree_of formula.now
         ≡ binary Add (binary Mul (array 7) (number Long (pos 2))) (number Long (pos 1)) }
 {
-    let value = Made {
-        ty: Ty::Long,
-        dims: shape(rt, alloc, &[3]),
-        elems: Elements::new(vec![in alloc; 0, 5, 2].expect(rt, "memory")),
-    };
-    let inputs = [Input { array: 7, value }];
-    let made = evaluated_anew(alloc, formula, &inputs).expect(rt, "values");
+    let dims = shape(rt, alloc, &[3]);
+    let made = evaluated_anew(alloc, formula, &dims, &[0, 5, 2]).expect(rt, "values");
     is_array(rt, alloc, &made, Ty::Long, &[3], &[1, 11, 5]);
 }
 

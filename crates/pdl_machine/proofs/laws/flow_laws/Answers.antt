@@ -1,9 +1,13 @@
 use Rattle.pdl_machine.proofs.FlowFollows as following
 use Rattle.pdl_machine.proofs.FlowKeeps as keeping
 use Rattle.pdl_machine.proofs.FlowsAffected.{only_affected_follow}
-use Rattle.pdl_machine.proofs.FlowsTidied.{tidying_keeps_flows}
+use Rattle.pdl_machine.proofs.FlowMoves.{flows_stay}
+use Rattle.pdl_machine.proofs.FlowsTidied.{letting_go_keeps_flows, tidying_keeps_flows}
 use Rattle.pdl_machine.proofs.SpelledViews.{shown_made}
 use Rattle.pdl_machine.proofs.laws.flow_laws.Goals as goal
+
+pub returns-clause-stay : goal.returns-clause-stay
+returns-clause-stay c = flows_stay
 
 pub returns-clause-follow : goal.returns-clause-follow
 returns-clause-follow c = following.flows_follow (record {
@@ -47,6 +51,9 @@ returns-clause-others c = keeping.others_keep_flows (record {
   new_whole = c.newest_laws.ensures.root_whole;
   new_path = c.newest_laws.ensures.root_path;
 })
+
+pub returns-clause-kept : goal.returns-clause-kept
+returns-clause-kept c = letting_go_keeps_flows c.sweep_laws.ensures.seen
 
 pub returns-clause-tidied : goal.returns-clause-tidied
 returns-clause-tidied c = tidying_keeps_flows c.sweep_laws.ensures.seen

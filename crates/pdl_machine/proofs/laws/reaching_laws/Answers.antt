@@ -1,3 +1,4 @@
+use Rattle.pdl_machine.proofs.FlowsTidied.{paths_reach}
 use Rattle.pdl_machine.proofs.Needed.{kept_are_needed, needed_flows_stay}
 use Rattle.pdl_machine.proofs.Steps.{steps_leave_reached, tidying_shows_the_same}
 use Rattle.pdl_machine.proofs.laws.reaching_laws.Goals as goal
@@ -13,3 +14,6 @@ returns-clause-reached c = steps_leave_reached
 
 pub returns-clause-shown : goal.returns-clause-shown
 returns-clause-shown c = tidying_shows_the_same
+
+pub returns-clause-paths : goal.returns-clause-paths
+returns-clause-paths c = paths_reach

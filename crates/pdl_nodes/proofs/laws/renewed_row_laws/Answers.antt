@@ -1,7 +1,7 @@
 use Rattle.pdl_nodes.proofs.Below.{LawsBelow}
 use Rattle.pdl_nodes.proofs.Relaying.{relaid_stay}
 use Rattle.pdl_nodes.proofs.Relays.{severs, can_renew}
-use Rattle.pdl_nodes.proofs.RenewOrder.{roots, reshapes, outdated, leaves_families, settled, known, sized}
+use Rattle.pdl_nodes.proofs.RenewOrder.{roots, reshapes, outdated, leaves_families, leaves_others, settled, known, sized}
 use Rattle.pdl_nodes.proofs.RenewRows.{renew_has, renew_row}
 use Rattle.pdl_nodes.proofs.laws.renewed_row_laws.Goals as goal
 
@@ -24,6 +24,7 @@ returns c =
       relaid = can_renew laws;
       stay = relaid_stay;
       outdated = outdated laws;
+      others = leaves_others;
       families = leaves_families;
       settled = settled;
       known = known laws;

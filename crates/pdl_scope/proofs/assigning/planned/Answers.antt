@@ -45,3 +45,6 @@ returns-clause-plan g c =
           (let all = ap (λ (ds : List Change). affected w fs (roots_in ds)) one ∙ ap (λ (r : ℕ). affected w fs (r ∷ [])) own ∙ none in
           no_rest d behind.0 (sym starts ∙ ap (λ p. p.items) (c.plan_flows.ensures.alone all).0 ∙ one));
     }
+
+pub reads_views-is_looked_at-requires : goal.reads_views-is_looked_at-requires
+reads_views-is_looked_at-requires g c = reads_live (arrays_of c.args.engine.now) c.args.flows.now c.requires.flows

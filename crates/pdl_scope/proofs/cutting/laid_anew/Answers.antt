@@ -25,7 +25,7 @@ returns-clause-held g c = λ names ws fs none unread held.
     let R : World → Type 0 = λ w. is_read fs w v ≡ false in
     let parent : P e.world = subst P (sym world_is) c.hold_parent.ensures.parent in
     held_reshaped c.reshape.result c.reshape_laws.ensures.numbers names ws fs e c.reshape.new.self v ds left h c.reshape.ensures.allowed
-    (λ a is. flows_reshaped c.meaning_laws.ensures c.reshape_laws.ensures.others (arrays_of e) a v ds fs h.whole.sound is none (subst R (sym world_is) unread) h.whole.flows)
+    (λ a is. flows_reshaped c.flow_laws.ensures.stay c.reshape_laws.ensures.others (arrays_of e) a v ds fs h.whole.sound is none (subst R (sym world_is) unread) h.whole.flows)
     (c.keeping_laws.ensures.reshaped e.world v ds (held_by names ws fs ++ left) h.whole.sound h.reached (noted_held (held_by names ws fs) left (parent_in e.world v) parent))
     c.reshape.ensures.ok c.reshape.ensures.err c.reshape.ensures.family.holds c.reshape.ensures.family.next c.reshape.ensures.sound
 

@@ -1,12 +1,12 @@
 use Rattle.std.proofs.Common.{◌≡◌, ℕ, List, length, take, Some, None, refl, sym, ap, ◌∙◌, subst}
 use Rattle.std.specs.Prelude.{slice_get}
-use Rattle.pdl_engine.specs.Looks.{numbers_in}
+use Rattle.pdl_engine.specs.Looks.{array_numbers}
 use Rattle.pdl_scope.proofs.Numbers.{Laws, fewer_left, first_is, length_more, listed_live, listed_more, next_number, taken_all}
 use Rattle.pdl_scope.proofs.dumping.all_numbers.Goals as goal
 
 pub loop-next-init : goal.loop-next-init
 loop-next-init c =
-    let numbers = numbers_in c.args.engine.now.world in
+    let numbers = array_numbers c.args.engine.now.world in
     record {
       listed = c.new-ids.ensures.items ∙ ap (λ (ks : List ℕ). take (length ks) numbers) (sym c.new-ids.ensures.items);
       next_is = c.next_live-next.ensures ∙ first_is numbers ∙ ap (λ (ks : List ℕ). slice_get numbers (length ks)) (sym c.new-ids.ensures.items);
@@ -26,12 +26,12 @@ next_live-next-requires-in-Some c =
 
 pub loop-next-smaller : goal.loop-next-smaller
 loop-next-smaller c =
-    fewer_left (numbers_in c.args.engine.now.world) c.loop-next.ids.items c.push.new.self.items c.in-Some.id c.in_ok-push.ensures.items
+    fewer_left (array_numbers c.args.engine.now.world) c.loop-next.ids.items c.push.new.self.items c.in-Some.id c.in_ok-push.ensures.items
     (sym c.loop-next.invariant.next_is ∙ c.in-Some.is)
 
 pub loop-next-preserved : goal.loop-next-preserved
 loop-next-preserved c =
-    let numbers = numbers_in c.args.engine.now.world in
+    let numbers = array_numbers c.args.engine.now.world in
     let old = c.loop-next.ids.items in
     let new = c.push.new.self.items in
     let id = c.in-Some.id in
@@ -45,4 +45,4 @@ loop-next-preserved c =
 pub returns : goal.returns
 returns c =
     c.loop-next.invariant.listed
-    ∙ taken_all (numbers_in c.args.engine.now.world) (length c.loop-next.ids.items) (sym c.loop-next.invariant.next_is ∙ c.in_default.is)
+    ∙ taken_all (array_numbers c.args.engine.now.world) (length c.loop-next.ids.items) (sym c.loop-next.invariant.next_is ∙ c.in_default.is)

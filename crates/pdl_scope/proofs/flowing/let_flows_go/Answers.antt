@@ -1,6 +1,4 @@
-use Rattle.std.proofs.Common.{◌≡◌, ◌+◌, ◌-◌, ◌≤◌, ◌<◌, ℕ, List, length, subst, arith}
-use Rattle.pdl_engine.specs.State.{State as Engine}
-use Rattle.pdl_scope.specs.LetGo.{HasFlows}
+use Rattle.std.proofs.Common.{◌≡◌, ◌+◌, ◌-◌, ◌≤◌, ◌<◌, ℕ, length, subst, arith}
 use Rattle.pdl_scope.proofs.Needed.{AreAsked, Laws, all_asked, asked_more, asked_within, none_asked}
 use Rattle.pdl_scope.proofs.flowing.let_flows_go.Goals as goal
 
@@ -33,7 +31,7 @@ going-preserved g c =
     let some : 0 < c.going.left = omega arith in
     let next : c.going.left ≡ i + 1 = omega (arith, some) in
     let lt : i < length fs = omega (arith, some, c.going.invariant.within) in
-    let laws : Laws = record { below = c.breaking_laws.ensures.below; kept = c.sweep_laws.ensures.kept; reached = c.sweep_laws.ensures.seen; again = c.numbering_laws.ensures.again } in
+    let laws : Laws = record { below = c.breaking_laws.ensures.below; paths = c.reaching_laws.ensures.paths; kept = c.sweep_laws.ensures.kept; reached = c.sweep_laws.ensures.seen; again = c.numbering_laws.ensures.again } in
     record {
       within = omega (arith, lt);
       asked = λ staying first had.

@@ -1,25 +1,36 @@
-use Rattle.std.proofs.Common.{◌≡◌, ℕ, ℤ, List, Option, sym, ap, ◌∙◌}
-use Rattle.pdl_elem.specs.declared.Ty.{Ty}
+use Rattle.std.proofs.Common.{◌≡◌, Some, None, sym, ap, subst, ◌∙◌}
+use Rattle.std.specs.Prelude.{IfOk}
 use Rattle.pdl_flow.specs.declared.formula.Input.{Input}
-use Rattle.pdl_world.specs.World.{World, Look, dims_in, ty_in}
-use Rattle.pdl_scope.specs.Plans.{all_assigned}
-use Rattle.pdl_scope.proofs.Planned.{dims_by, type_by}
-use Rattle.pdl_scope.proofs.Plans.{looks_after}
+use Rattle.pdl_world.specs.Paths.{root_of}
+use Rattle.pdl_machine.specs.Arrays.{Arrays}
+use Rattle.pdl_scope.specs.Plans.{change_to}
+use Rattle.pdl_scope.specs.Scope.{arrays_of}
+use Rattle.pdl_scope.proofs.Inputs.{input_found, input_kept}
+use Rattle.pdl_scope.proofs.Plans.{Laws, found_change}
 use Rattle.pdl_scope.proofs.following.input_planned.Goals as goal
 
-abbrev input_of : ℕ → Ty → List ℕ → List ℤ → Input
-input_of k ty ds es = record { array = k; value = record { ty = ty; dims = ds; elems = es } }
+pub input_after-requires-clause-own : goal.input_after-requires-clause-own
+input_after-requires-clause-own g c =
+    let e = c.args.engine.now in
+    let plan = c.args.plan.now in
+    let r = root_of e.world c.args.id in
+    found_change e plan r c.in-Some.change.now c.requires.plan (ap (change_to plan) (sym c.root.ensures) ∙ sym c.in-Some.ensures)
 
-inputs_same : (k : ℕ) {t u : Ty} {ds bs : List ℕ} {es fs : List ℤ} → t ≡ u → ds ≡ bs → es ≡ fs → input_of k t ds es ≡ input_of k u bs fs
-inputs_same k p q r = cc
-
-pub returns-clause-input : goal.returns-clause-input
-returns-clause-input g c =
-    let w = c.args.engine.now.world in
+pub returns-in-Some-clause-input : goal.returns-in-Some-clause-input
+returns-in-Some-clause-input g c =
+    let a : Arrays = arrays_of c.args.engine.now in
+    let plan = c.args.plan.now in
     let id = c.args.id in
-    let same = c.elements_planned.ensures.same.world in
-    let looks = looks_after c.assignment_laws.ensures.looks w c.args.plan.now id in
-    inputs_same id
-    (c.ty.ensures ∙ ap (λ (x : World). ty_in x id) same ∙ sym (ap type_by looks))
-    (c.copy_dims.ensures ∙ c.dims.ensures.now ∙ ap (λ (x : World). dims_in x id) same ∙ sym (ap dims_by looks))
-    (c.new.ensures ∙ c.in_ok-items.ensures.items)
+    let d = c.in-Some.change.now in
+    let laws : Laws = record { looks = c.assignment_laws.ensures.looks; reads = c.assignment_laws.ensures.reads; wholes = c.part_laws.ensures.wholes; others = c.part_laws.ensures.others } in
+    let found : change_to plan (root_of a.world id) ≡ Some d = ap (change_to plan) (sym c.root.ensures) ∙ sym c.in-Some.ensures in
+    subst (λ (x : Input). IfOk c.input_after.result (λ i. i ≡ x)) (input_found laws a plan id d c.requires.plan.foretold c.requires.live found) c.input_after.ensures.input
+
+pub returns-in-None-clause-input : goal.returns-in-None-clause-input
+returns-in-None-clause-input g c =
+    let a : Arrays = arrays_of c.args.engine.now in
+    let plan = c.args.plan.now in
+    let id = c.args.id in
+    let laws : Laws = record { looks = c.assignment_laws.ensures.looks; reads = c.assignment_laws.ensures.reads; wholes = c.part_laws.ensures.wholes; others = c.part_laws.ensures.others } in
+    let none : change_to plan (root_of a.world id) ≡ None = ap (change_to plan) (sym c.root.ensures) ∙ sym c.in-None.ensures in
+    subst (λ (x : Input). IfOk c.input_now.result (λ i. i ≡ x)) (input_kept laws a plan id c.requires.plan.foretold none) c.input_now.ensures.input

@@ -1,9 +1,13 @@
 use Rattle.std.proofs.Common.{◌≡◌, drop}
-use Rattle.pdl_machine.specs.Flows.{reads_from}
+use Rattle.std.specs.List.{list_any}
+use Rattle.pdl_flow.specs.Formula.{arrays_in}
+use Rattle.pdl_world.specs.Paths.{root_of}
+use Rattle.pdl_world.specs.Swept.{is_listed}
 use Rattle.pdl_scope.specs.Plans.{roots_in}
 use Rattle.pdl_scope.proofs.following.reads_changed.Given as goal
 
--- nothing is read that the assignments before this one alter
-abbrev pub invariant-loop-change : goal.invariant-loop-change
-invariant-loop-change l =
-    reads_from l.engine.world l.flow (roots_in (drop l.change-index l.plan)) ≡ reads_from l.engine.world l.flow (roots_in l.plan)
+-- none of the arrays before this one has a root that is altered
+abbrev pub invariant-loop-read : goal.invariant-loop-read
+invariant-loop-read l =
+    list_any (λ k. is_listed (roots_in l.plan) (root_of l.engine.world k)) (drop l.read-index (arrays_in l.flow.formula))
+    ≡ list_any (λ k. is_listed (roots_in l.plan) (root_of l.engine.world k)) (arrays_in l.flow.formula)

@@ -7,14 +7,16 @@ use Rattle.pdl_watch.specs.Changes.{changes}
 use Rattle.pdl_scope.proofs.watching.changes_foreseen.Goals as goal
 
 pub returns-in-Some-clause-told : goal.returns-in-Some-clause-told
-returns-in-Some-clause-told g c = λ v vs told.
+returns-in-Some-clause-told g c =
     let w : World = c.args.engine.now.world in
-    let found : IsForeseen w v vs c.args.seen (Some c.in-Some.foreseen) = subst (IsForeseen w v vs c.args.seen) c.in-Some.is (c.in_ok-foreseen.ensures.value v vs told) in
+    let d = c.args.change.now in
+    let found : IsForeseen w d.target d.values.items c.args.seen (Some c.in-Some.foreseen) = subst (IsForeseen w d.target d.values.items c.args.seen) c.in-Some.is c.in_ok-foreseen.ensures.value in
     subst (λ (ms : List Notice). IfOk c.changes.result (λ ns. ns.items ≡ ms))
     (ap₂ (changes c.args.number) (c.deref.ensures.value ∙ found.0) (c.deref-in-Some.ensures.value ∙ found.1)) c.changes.ensures
 
 pub returns-in-None-clause-told : goal.returns-in-None-clause-told
-returns-in-None-clause-told g c = λ v vs told.
+returns-in-None-clause-told g c =
     let w : World = c.args.engine.now.world in
-    let stays : IsForeseen w v vs c.args.seen None = subst (IsForeseen w v vs c.args.seen) c.in-None.is (c.in_ok-foreseen.ensures.value v vs told) in
+    let d = c.args.change.now in
+    let stays : IsForeseen w d.target d.values.items c.args.seen None = subst (IsForeseen w d.target d.values.items c.args.seen) c.in-None.is c.in_ok-foreseen.ensures.value in
     c.new.ensures.items ∙ sym (ap (changes c.args.number (elements w c.args.seen)) stays ∙ c.change_laws.ensures c.args.number (elements w c.args.seen))

@@ -5,8 +5,9 @@ use Rattle.pdl_world.specs.Sound.{IsLive}
 use Rattle.pdl_world.specs.World.{World}
 use Rattle.pdl_watch.specs.Slots.{lists_of}
 use Rattle.pdl_machine.specs.Watches.{notices, slot_notices}
-use Rattle.pdl_scope.specs.Plans.{AreForetold, all_assigned}
+use Rattle.pdl_scope.specs.Plans.{all_assigned}
 use Rattle.pdl_scope.proofs.Foreseen.{foreseen_first, foreseen_more}
+use Rattle.pdl_scope.proofs.Planned.{planned_kept}
 use Rattle.pdl_scope.proofs.Watched.{lists_more, live_watch, none_watched}
 use Rattle.pdl_scope.proofs.watching.foreseen.Goals as goal
 
@@ -18,8 +19,7 @@ slot_foreseen-requires-clause-watched g c =
     subst P (sym c.loop-watch.invariant.same.world) (live_watch c.args.engine.now.world ws i c.requires.watched)
 
 pub slot_foreseen-requires-clause-plan : goal.slot_foreseen-requires-clause-plan
-slot_foreseen-requires-clause-plan g c =
-    subst (λ (w : World). AreForetold w c.args.plan.now) (sym c.loop-watch.invariant.same.world) c.requires.plan
+slot_foreseen-requires-clause-plan g c = planned_kept c.args.engine.now c.loop-watch.engine c.loop-watch.invariant.same c.loop-watch.invariant.stay c.args.plan.now c.requires.plan
 
 pub returns-in_err-told-clause-quiet : goal.returns-in_err-told-clause-quiet
 returns-in_err-told-clause-quiet g c = λ none. c.slot_foreseen.ensures.quiet (none_watched c.args.watches.now c.loop-watch.watch-index none) ∙ c.loop-watch.invariant.quiet none

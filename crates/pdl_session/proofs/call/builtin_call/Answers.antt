@@ -41,7 +41,7 @@ returns-in-Ok-New-clause-within g c =
     let m = c.in-Ok-New.made in
     let less = by_le s c.args.builtin c.args.given.now in
     let counted : c.adopt-made.new.steps ≤ c.args.steps.now + (ready_all s c.args.given.now + count_moved m.elems) = (let a = c.outcome.ensures.counted in let b = c.adopt-made.ensures.counted in omega (arith, less, a, b)) in
-    root_within c.cost_laws.ensures.roots c.cost_laws.ensures.made s c.adopt-made.new.self m (ready_all s c.args.given.now) c.args.steps.now c.adopt-made.new.steps c.adopt-made.result c.in_order-in-Ok-New.ensures
+    root_within c.cost_laws.ensures.roots c.cost_laws.ensures.made s c.adopt-made.new.self s.arrays m (ready_all s c.args.given.now) c.args.steps.now c.adopt-made.new.steps c.adopt-made.result c.in_order-in-Ok-New.ensures
     (subst (λ (a : Arrays). Evaluates (new_root a m) c.adopt-made.new.self c.adopt-made.result) c.outcome.ensures.same.arrays c.adopt-made.ensures.value) counted
 
 pub returns-in-Ok-View-clause-within : goal.returns-in-Ok-View-clause-within
@@ -53,7 +53,7 @@ returns-in-Ok-View-clause-within g c =
     let others : reads_first c.args.builtin ≡ false = views_read_others c.args.builtin (all_seen_of s.arrays given) c.in-Ok-View.trans is in
     let P : Bool → Type 0 = λ b. c.outcome.new.steps ≤ c.args.steps.now + read_all s (if b then given else drop 1 given) in
     let grown : Grows s c.view_first-made.new.scope = grows_trans s c.outcome.new.scope c.view_first-made.new.scope (reads_grow s c.outcome.new.scope c.outcome.ensures.same) c.view_first-made.ensures.grown in
-    view_within c.cost_laws.ensures.views c.cost_laws.ensures.shown c.cost_laws.ensures.grown s c.view_first-made.new.scope given c.in-Ok-View.trans c.args.steps.now c.outcome.new.steps c.view_first-made.result c.in_order-in-Ok-View.ensures grown
+    view_within c.cost_laws.ensures.views c.cost_laws.ensures.shown s c.view_first-made.new.scope given c.in-Ok-View.trans c.args.steps.now c.outcome.new.steps c.view_first-made.result c.in_order-in-Ok-View.ensures
     (c.cost_laws.ensures.older s c.view_first-made.new.scope c.in_order.ensures c.in_order-in-Ok-View.ensures grown) c.requires
     (subst (λ (a : Arrays). Evaluates (view_placed a (arguments given) c.in-Ok-View.trans) c.view_first-made.new.scope c.view_first-made.result) c.outcome.ensures.same.arrays c.view_first-made.ensures.value) (subst P others c.outcome.ensures.counted)
 
@@ -63,7 +63,7 @@ returns-in-Err-clause-within g c =
     let new = c.outcome.new.scope in
     let less = by_le s c.args.builtin c.args.given.now in
     reading_refused (ready_steps (engine_of new)) s new (ready_all s c.args.given.now) c.args.steps.now c.outcome.new.steps (Err c.in-Err.fault) c.in-Err.fault refl
-    (omega (arith, less, c.outcome.ensures.counted)) c.outcome.ensures.same.arrays
+    (omega (arith, less, c.outcome.ensures.counted))
 
 pub returns-in-Ok-View-clause-grown : goal.returns-in-Ok-View-clause-grown
 returns-in-Ok-View-clause-grown g c =

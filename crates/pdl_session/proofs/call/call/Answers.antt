@@ -43,7 +43,7 @@ returns-in_err-outputs-in-None-clause-within g c =
     let most = ready_all s c.args.given.now in
     let less = read_all_le s c.args.given.now in
     reading_refused (ready_steps (engine_of new)) s new most c.args.steps.now c.kernel_outputs.new.steps c.from_residual.result c.in_err-outputs-in-None.field-0.0 c.from_residual.ensures.1
-    (omega (arith, less, c.kernel_outputs.ensures.counted)) c.kernel_outputs.ensures.same.arrays
+    (omega (arith, less, c.kernel_outputs.ensures.counted))
 
 pub returns-in_ok-outputs-in-None-clause-within : goal.returns-in_ok-outputs-in-None-clause-within
 returns-in_ok-outputs-in-None-clause-within g c =

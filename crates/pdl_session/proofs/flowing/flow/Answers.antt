@@ -1,6 +1,5 @@
 use Rattle.pdl_flow.specs.Formula.{arrays_in, tree_of as formula_tree}
 use Rattle.pdl_syntax.specs.TreeOf.{tree_of}
-use Rattle.pdl_session.specs.Costs.{named_steps}
 use Rattle.pdl_session.proofs.Formed.{equals_value, flowing_within, runs_flow, still_live}
 use Rattle.pdl_session.proofs.flowing.flow.Goals as goal
 
@@ -20,5 +19,10 @@ returns-clause-runs g c =
 
 pub returns-clause-within : goal.returns-clause-within
 returns-clause-within g c =
-    flowing_within c.flow-made.result c.cost_laws.ensures.made c.args.scope.now c.eval.new.scope c.flow-made.new.self c.args.name.now (formula_tree c.in_ok-formula.field-0) (named_steps c.args.scope.now (tree_of c.args.value.now)) c.args.steps.now c.eval.new.steps c.flow-made.new.steps c.in_ok-id.id
-    c.in_order-3.ensures c.in_ok-id.ensures.within c.flow-made.ensures.counted c.flow-made.ensures.refused c.flow-made.ensures.runs
+    let s = c.args.scope.now in
+    let mid = c.eval.new.scope in
+    let tree = tree_of c.args.value.now in
+    let f = formula_tree c.in_ok-formula.field-0 in
+    let ran = runs_flow c.flow-made.result s mid c.flow-made.new.self c.args.name.now tree c.in_ok-id.id f c.in_ok-id.ensures.value.0 c.in_ok-formula.ensures.0 c.in_ok-id.ensures.grown c.flow-made.ensures.runs in
+    flowing_within c.flow-made.result c.cost_laws.ensures.made s mid c.flow-made.new.self c.args.name.now tree f c.args.steps.now c.eval.new.steps c.flow-made.new.steps c.in_ok-id.id
+    c.in_ok-id.ensures.value.0 c.in_ok-id.ensures.within c.flow-made.ensures.counted c.flow-made.ensures.refused c.flow-made.ensures.runs ran

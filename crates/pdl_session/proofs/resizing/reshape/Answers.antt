@@ -7,6 +7,7 @@ use Rattle.pdl_machine.specs.Cuts.{dims_given}
 use Rattle.pdl_scope.specs.Costs.{total_size}
 use Rattle.pdl_scope.specs.Scope.{engine_of, machine}
 use Rattle.pdl_session.specs.declared.given.Given.{Given}
+use Rattle.pdl_session.specs.Came.{args_left}
 use Rattle.pdl_session.specs.Costs.{PaysWithin, argued_steps, read_all, ready_all}
 use Rattle.pdl_session.specs.Moves.{wanted_size}
 use Rattle.pdl_session.proofs.Moves.{reshaped_within, sizes_refused, sizes_unknown}
@@ -40,11 +41,11 @@ returns-in_ok-given-in-Some-clause-within g c =
     let id = c.in-Some.id in
     let gs = c.in_ok-given-in-Some.given.items in
     let G : List Given → Type 0 = λ hs. c.take.new.steps + ready_all mid gs + total_size s.arrays.world ≤ c.args.steps.now + total_size mid.arrays.world + (argued_steps s args + ready_all s hs) in
-    let taken : G [] = subst G c.new-none.ensures.items c.in_ok-given-in-Some.ensures.within in
+    let taken : G [] = subst G c.new-none.ensures.items (c.in_ok-given-in-Some.ensures.within s.arrays none (ap (λ hs. with_given s.arrays (arguments hs)) (sym c.new-none.ensures.items))) in
     let H : List Given → Type 0 = λ hs. c.resized.new.steps ≤ c.take.new.steps + (read_all mid hs + (ready_steps (engine_of mid) id + wanted_size (dims_given (mid.arrays, arguments hs)))) in
     let counted : H gs = subst H c.deref.ensures.value c.resized.ensures.counted in
     let costs = c.cost_laws.ensures.older s mid c.in_order.ensures c.in_order-in-Some.ensures c.take.ensures.grown in
-    reshaped_within c.resized.result s mid c.resized.new.scope c.args.name.now args gs (argued_steps s args) c.args.steps.now c.take.new.steps c.resized.new.steps id
+    reshaped_within c.resized.result s mid c.args.name.now args gs (argued_steps s args) c.args.steps.now c.take.new.steps c.resized.new.steps id
     (sym c.number_of.ensures.number ∙ c.in-Some.is) (c.in_ok-given-in-Some.ensures.value s.arrays none (ap (λ hs. with_given s.arrays (arguments hs)) (sym c.new-none.ensures.items))) costs c.in-Some.ensures.live (omega (arith, taken)) counted
 
 pub returns-in_err-given-in-Some-clause-within : goal.returns-in_err-given-in-Some-clause-within
@@ -59,4 +60,4 @@ returns-in_err-given-in-Some-clause-within g c =
     let enough : most ≡ argued_steps s args = omega (arith, none_given) in
     sizes_refused c.from_residual.result f s new c.args.name.now args due (argued_steps s args) c.args.steps.now c.take.new.steps c.in-Some.id (sym c.number_of.ensures.number ∙ c.in-Some.is) c.from_residual.ensures.1
     (c.in_err-given-in-Some.ensures.value s.arrays none (ap (λ hs. with_given s.arrays (arguments hs)) (sym c.new-none.ensures.items)))
-    (subst (λ n. PaysWithin due n s new c.args.steps.now c.take.new.steps (Err f)) enough c.in_err-given-in-Some.ensures.within)
+    (subst (λ n. PaysWithin due n s new (args_left s.names s.arrays args) c.args.steps.now c.take.new.steps (Err f)) enough (c.in_err-given-in-Some.ensures.within s.arrays none (ap (λ hs. with_given s.arrays (arguments hs)) (sym c.new-none.ensures.items))))

@@ -79,7 +79,7 @@ returns-clause-within g c = λ none.
     let first = c.cost_laws.ensures.older s mid c.in_order.ensures c.in_order-2.ensures c.assigned_to.ensures.grown in
     let next = c.cost_laws.ensures.older mid late c.in_order-2.ensures c.in_order-3.ensures c.eval.ensures.grown in
     let both = c.cost_laws.ensures.older s late c.in_order.ensures c.in_order-3.ensures all in
-    assigned_within c.assign.result c.growth_laws.ensures.older s mid late c.assign.new.self (target c.args.to.now.name (map view_of c.args.to.now.views.items)) tree c.args.steps.now c.assigned_to.new.steps c.eval.new.steps c.assign.new.steps c.in_ok-to.to c.in_ok-from.from
+    assigned_within c.assign.result c.growth_laws.ensures.older s mid late (target c.args.to.now.name (map view_of c.args.to.now.views.items)) tree c.args.steps.now c.assigned_to.new.steps c.eval.new.steps c.assign.new.steps c.in_ok-to.to c.in_ok-from.from
     c.in_order.ensures.whole c.in_order-3.ensures.whole c.in_ok-to.ensures.value.0 c.in_ok-to.ensures.value.1 c.in_ok-from.ensures.value.0 c.assigned_to.ensures.grown c.eval.ensures.grown all next both
     c.in_ok-to.ensures.within (names_less s mid c.assigned_to.ensures.grown.names (names_live s c.in_order.ensures.whole) first tree) c.in_ok-from.ensures.within (c.assign.ensures.counted (assigned_affected c.growth_laws.ensures.older s mid late to c.in_ok-to.to c.in_ok-to.ensures.value.0 c.in_ok-to.ensures.value.1 c.assigned_to.ensures.grown c.eval.ensures.grown c.in_order-2.ensures.whole c.in_order-3.ensures.whole ∙ none))
 

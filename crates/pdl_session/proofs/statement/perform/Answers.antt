@@ -9,7 +9,8 @@ use Rattle.pdl_watch.specs.Slots.{present_in, slots_by}
 use Rattle.pdl_machine.specs.Step.{Stepped, assigning, effect, target}
 use Rattle.pdl_scope.specs.Answers.{Prints}
 use Rattle.pdl_scope.specs.Scope.{machine}
-use Rattle.pdl_session.specs.Moves.{assign_steps, came, value_after}
+use Rattle.pdl_session.specs.Came.{sides_evaluated}
+use Rattle.pdl_session.specs.Moves.{assign_steps}
 use Rattle.pdl_session.specs.Performed.{Performs}
 use Rattle.pdl_session.specs.Statements.{MovesByForm}
 use Rattle.pdl_session.proofs.Moves.{up_to_fault}
@@ -115,48 +116,51 @@ returns-in_err-all-in-Assign-clause-performs g c =
 
 pub returns-in-Show-clause-bounded : goal.returns-in-Show-clause-bounded
 returns-in-Show-clause-bounded g c =
-    subst (λ (z : Statement). MovesByForm (statement_of z) c.args.scope.now c.show.new.scope c.args.steps.now c.show.new.steps c.show.result) (sym c.in-Show.is) c.show.ensures.within
+    subst (λ (z : Statement). MovesByForm (statement_of z) c.args.scope.now c.args.steps.now c.show.new.steps c.show.result) (sym c.in-Show.is) c.show.ensures.within
 
 pub returns-in-Dump-clause-bounded : goal.returns-in-Dump-clause-bounded
 returns-in-Dump-clause-bounded g c =
-    subst (λ (z : Statement). MovesByForm (statement_of z) c.args.scope.now c.dump.new.scope c.args.steps.now c.dump.new.steps c.dump.result) (sym c.in-Dump.is) c.dump.ensures.counted
+    subst (λ (z : Statement). MovesByForm (statement_of z) c.args.scope.now c.args.steps.now c.dump.new.steps c.dump.result) (sym c.in-Dump.is) c.dump.ensures.counted
 
 pub returns-in-BindList-clause-bounded : goal.returns-in-BindList-clause-bounded
 returns-in-BindList-clause-bounded g c =
-    subst (λ (z : Statement). MovesByForm (statement_of z) c.args.scope.now c.bind_list.new.scope c.args.steps.now c.bind_list.new.steps c.bind_list.result) (sym c.in-BindList.is) c.bind_list.ensures.within
+    let s = c.args.scope.now in
+    let P : Statement → Type 0 = λ z. MovesByForm (statement_of z) s c.args.steps.now c.bind_list.new.steps c.bind_list.result in
+    let Q : List (List ℕ) → Type 0 = λ xs. MovesByForm (bind_list xs (tree_of c.in-BindList.value)) s c.args.steps.now c.bind_list.new.steps c.bind_list.result in
+    subst P (sym c.in-BindList.is) (subst Q c.deref.ensures.value c.bind_list.ensures.within)
 
 pub returns-in-Sever-clause-bounded : goal.returns-in-Sever-clause-bounded
 returns-in-Sever-clause-bounded g c =
-    subst (λ (z : Statement). MovesByForm (statement_of z) c.args.scope.now c.sever.new.scope c.args.steps.now c.sever.new.steps c.sever.result) (sym c.in-Sever.is) c.sever.ensures.counted
+    subst (λ (z : Statement). MovesByForm (statement_of z) c.args.scope.now c.args.steps.now c.sever.new.steps c.sever.result) (sym c.in-Sever.is) c.sever.ensures.counted
 
 pub returns-in-Flow-clause-bounded : goal.returns-in-Flow-clause-bounded
 returns-in-Flow-clause-bounded g c =
-    subst (λ (z : Statement). MovesByForm (statement_of z) c.args.scope.now c.flow.new.scope c.args.steps.now c.flow.new.steps c.flow.result) (sym c.in-Flow.is) c.flow.ensures.within
+    subst (λ (z : Statement). MovesByForm (statement_of z) c.args.scope.now c.args.steps.now c.flow.new.steps c.flow.result) (sym c.in-Flow.is) c.flow.ensures.within
 
 pub returns-in-Bind-default-default-true-clause-bounded : goal.returns-in-Bind-default-default-true-clause-bounded
 returns-in-Bind-default-default-true-clause-bounded g c =
     let s = c.args.scope.now in
-    let P : Statement → Type 0 = λ z. MovesByForm (statement_of z) s c.bind_severed.new.scope c.args.steps.now c.bind_severed.new.steps c.bind_severed.result in
-    let Q : Bool → Type 0 = λ b. MovesByForm (bind c.in-Bind-default-default-true.name (tree_of c.in-Bind-default-default-true.value) b) s c.bind_severed.new.scope c.args.steps.now c.bind_severed.new.steps c.bind_severed.result in
+    let P : Statement → Type 0 = λ z. MovesByForm (statement_of z) s c.args.steps.now c.bind_severed.new.steps c.bind_severed.result in
+    let Q : Bool → Type 0 = λ b. MovesByForm (bind c.in-Bind-default-default-true.name (tree_of c.in-Bind-default-default-true.value) b) s c.args.steps.now c.bind_severed.new.steps c.bind_severed.result in
     subst P (sym c.in-Bind-default-default-true.is) (subst Q (sym c.in-Bind-default-default-true.sever-test ∙ c.in-Bind-default-default-true.sever-is) c.bind_severed.ensures.within)
 
 pub returns-in-Bind-default-default-false-clause-bounded : goal.returns-in-Bind-default-default-false-clause-bounded
 returns-in-Bind-default-default-false-clause-bounded g c =
     let s = c.args.scope.now in
-    let P : Statement → Type 0 = λ z. MovesByForm (statement_of z) s c.bind_value.new.scope c.args.steps.now c.bind_value.new.steps c.bind_value.result in
-    let Q : Bool → Type 0 = λ b. MovesByForm (bind c.in-Bind-default-default-false.name (tree_of c.in-Bind-default-default-false.value) b) s c.bind_value.new.scope c.args.steps.now c.bind_value.new.steps c.bind_value.result in
+    let P : Statement → Type 0 = λ z. MovesByForm (statement_of z) s c.args.steps.now c.bind_value.new.steps c.bind_value.result in
+    let Q : Bool → Type 0 = λ b. MovesByForm (bind c.in-Bind-default-default-false.name (tree_of c.in-Bind-default-default-false.value) b) s c.args.steps.now c.bind_value.new.steps c.bind_value.result in
     subst P (sym c.in-Bind-default-default-false.is) (subst Q (sym c.in-Bind-default-default-false.sever-test ∙ c.in-Bind-default-default-false.sever-is) c.bind_value.ensures.within)
 
 pub returns-in-Reshape-clause-bounded : goal.returns-in-Reshape-clause-bounded
 returns-in-Reshape-clause-bounded g c =
     let s = c.args.scope.now in
-    let P : Statement → Type 0 = λ z. MovesByForm (statement_of z) s c.reshape.new.scope c.args.steps.now c.reshape.new.steps c.reshape.result in
-    let Q : List Arg → Type 0 = λ xs. MovesByForm (reshape c.in-Reshape.name (args_of xs none)) s c.reshape.new.scope c.args.steps.now c.reshape.new.steps c.reshape.result in
+    let P : Statement → Type 0 = λ z. MovesByForm (statement_of z) s c.args.steps.now c.reshape.new.steps c.reshape.result in
+    let Q : List Arg → Type 0 = λ xs. MovesByForm (reshape c.in-Reshape.name (args_of xs none)) s c.args.steps.now c.reshape.new.steps c.reshape.result in
     subst P (sym c.in-Reshape.is) (subst Q c.deref-in-Reshape.ensures.value c.reshape.ensures.within)
 
 pub returns-in_ok-all-in-Assign-clause-bounded : goal.returns-in_ok-all-in-Assign-clause-bounded
 returns-in_ok-all-in-Assign-clause-bounded g c =
-    subst (λ (z : Statement). MovesByForm {T = Unit {0}} (statement_of z) c.args.scope.now c.assign_value.new.scope c.args.steps.now c.assign_value.new.steps (Ok tt)) (sym c.in-Assign.is) c.in_ok-all-in-Assign.ensures.within
+    subst (λ (z : Statement). MovesByForm {T = Unit {0}} (statement_of z) c.args.scope.now c.args.steps.now c.assign_value.new.steps (Ok tt)) (sym c.in-Assign.is) c.in_ok-all-in-Assign.ensures.within
 
 pub returns-in_err-all-in-Assign-clause-bounded : goal.returns-in_err-all-in-Assign-clause-bounded
 returns-in_err-all-in-Assign-clause-bounded g c =
@@ -164,7 +168,6 @@ returns-in_err-all-in-Assign-clause-bounded g c =
     let t = c.in-Assign.target in
     let place = target t.name (map view_of t.views.items) in
     let tree = tree_of c.in-Assign.value in
-    let new = c.assign_value.new.scope in
     let f = c.in_err-all-in-Assign.field-0.0 in
-    subst (λ (z : Statement). MovesByForm (statement_of z) s new c.args.steps.now c.assign_value.new.steps c.from_residual.result) (sym c.in-Assign.is)
-    (λ none. up_to_fault (Vec (Vec Notice Global) Global) c.from_residual.result f (assign_steps s place tree) s (came (value_after s place tree) new.arrays.world) c.args.steps.now c.assign_value.new.steps c.from_residual.ensures.1 (c.in_err-all-in-Assign.ensures.within none))
+    subst (λ (z : Statement). MovesByForm (statement_of z) s c.args.steps.now c.assign_value.new.steps c.from_residual.result) (sym c.in-Assign.is)
+    (λ none. up_to_fault (Vec (Vec Notice Global) Global) c.from_residual.result f (assign_steps s place tree) s (sides_evaluated s place tree) c.args.steps.now c.assign_value.new.steps c.from_residual.ensures.1 (c.in_err-all-in-Assign.ensures.within none))

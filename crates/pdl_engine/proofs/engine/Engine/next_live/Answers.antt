@@ -3,7 +3,8 @@ use Rattle.std.specs.Prelude.{IfSome}
 use Rattle.pdl_world.specs.Sound.{IsLive}
 use Rattle.pdl_world.specs.World.{World}
 use Rattle.pdl_nodes.specs.Rows.{from}
-use Rattle.pdl_engine.specs.Looks.{first_from, numbers_in, past}
+use Rattle.pdl_registry.specs.Numbered.{first_from}
+use Rattle.pdl_engine.specs.Looks.{array_numbers, past}
 use Rattle.pdl_engine.specs.State.{State}
 use Rattle.pdl_engine.proofs.Looks.{from_is, past_small}
 use Rattle.pdl_engine.proofs.engine.Engine.next_live.Goals as goal
@@ -16,4 +17,4 @@ past-requires c =
 pub returns : goal.returns
 returns c =
     c.from.ensures ∙ ap (λ (n : ℕ). from c.self.inside.table n) c.past.ensures ∙ from_is c.self.inside.table (past c.args.after)
-    ∙ ap (λ (s : State). first_from (numbers_in s.world) (past c.args.after)) c.self.view_is
+    ∙ ap (λ (s : State). first_from (array_numbers s.world) (past c.args.after)) c.self.view_is

@@ -6,13 +6,12 @@ use Rattle.pdl_world.specs.Sound.{IsSound}
 use Rattle.pdl_world.specs.World.{World, assign, dims_in}
 use Rattle.pdl_engine.specs.Reading.{KeepsViews, read_steps}
 use Rattle.pdl_engine.specs.State.{State as Engine}
-use Rattle.pdl_machine.specs.Flows.{Flows, affected, is_flow}
+use Rattle.pdl_machine.specs.Flows.{Flows, affected, followers, is_flow}
 use Rattle.pdl_machine.specs.State.{State, with_arrays, AreLive}
 use Rattle.pdl_machine.specs.Step.{assigned, flowed}
 use Rattle.pdl_machine.specs.Then.{and_then}
 use Rattle.pdl_machine.specs.Watches.{Watches, attached}
 use Rattle.pdl_scope.specs.Answers.{Prints}
-use Rattle.pdl_scope.specs.Assigning.{followers}
 use Rattle.pdl_scope.specs.Plans.{AllCanAssign, IsPlan, all_assigned}
 use Rattle.pdl_scope.specs.Scope.{arrays_of, engine_of, machine, names_in, state_in, IsHeld, Scope as Seen}
 use Rattle.pdl_scope.specs.declared.following.Change.{Change}
@@ -135,7 +134,7 @@ returns-in_err-plan-clause-counted g c = λ asked.
     let u = c.args.value in
     let t = c.written.new.engine in
     let fs = c.self.inside.flows.items in
-    let none = subst (λ (s : Seen). followers s v ≡ []) (sym c.self.view_is) asked in
+    let none = subst (λ (s : Seen). followers s.arrays.world s.flows v ≡ []) (sym c.self.view_is) asked in
     let alone : affected t.world c.deref-2.result.now (root_of t.world v ∷ []) ≡ [] =
     ap (λ (gs : Flows). affected t.world gs (root_of t.world v ∷ [])) c.deref-2.ensures.value ∙ ap (λ (w : World). affected w fs (root_of w v ∷ [])) c.written.ensures.same.world ∙ none in
     let still = (c.planned.ensures.alone alone).1 in
@@ -150,7 +149,7 @@ returns-in_err-all-clause-counted g c = λ asked.
     let t = c.written.new.engine in
     let ws = c.self.inside.watches.items in
     let fs = c.self.inside.flows.items in
-    let none = subst (λ (s : Seen). followers s v ≡ []) (sym c.self.view_is) asked in
+    let none = subst (λ (s : Seen). followers s.arrays.world s.flows v ≡ []) (sym c.self.view_is) asked in
     let alone : affected t.world c.deref-2.result.now (root_of t.world v ∷ []) ≡ [] =
     ap (λ (gs : Flows). affected t.world gs (root_of t.world v ∷ [])) c.deref-2.ensures.value ∙ ap (λ (w : World). affected w fs (root_of w v ∷ [])) c.written.ensures.same.world ∙ none in
     let still = c.planned.ensures.alone alone in
@@ -171,7 +170,7 @@ returns-clause-counted g c = λ asked.
     let t = c.written.new.engine in
     let ws = c.self.inside.watches.items in
     let fs = c.self.inside.flows.items in
-    let none = subst (λ (s : Seen). followers s v ≡ []) (sym c.self.view_is) asked in
+    let none = subst (λ (s : Seen). followers s.arrays.world s.flows v ≡ []) (sym c.self.view_is) asked in
     let alone : affected t.world c.deref-2.result.now (root_of t.world v ∷ []) ≡ [] =
     ap (λ (gs : Flows). affected t.world gs (root_of t.world v ∷ [])) c.deref-2.ensures.value ∙ ap (λ (w : World). affected w fs (root_of w v ∷ [])) c.written.ensures.same.world ∙ none in
     let still = c.planned.ensures.alone alone in

@@ -3,11 +3,10 @@ use Rattle.pdl_flow.specs.Formula.{arrays_in, tree_of}
 use Rattle.pdl_world.specs.Sound.{IsLive}
 use Rattle.pdl_engine.specs.Held.{count_at}
 use Rattle.pdl_engine.specs.State.{State as Engine}
-use Rattle.pdl_machine.specs.Flows.{Flow, Flows, all_read}
+use Rattle.pdl_machine.specs.Flows.{Flow, Flows, all_read, flows_with}
 use Rattle.pdl_machine.specs.Following.{AreFlows}
 use Rattle.pdl_machine.specs.Names.{Named, names_limit, is_full_for, with_name}
 use Rattle.pdl_machine.specs.State.{AreLive}
-use Rattle.pdl_scope.specs.Flowing.{flows_with}
 use Rattle.pdl_scope.specs.Scope.{arrays_of, names_in, reads_limit, state_in, times, IsHeld, Scope as Seen}
 use Rattle.pdl_scope.proofs.Begun.{begun_live}
 use Rattle.pdl_scope.proofs.Cuts.{fits_bound, held_same}

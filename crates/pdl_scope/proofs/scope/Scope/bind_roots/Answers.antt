@@ -8,8 +8,6 @@ use Rattle.pdl_scope.specs.Growth.{grows_refl, grows_trans}
 use Rattle.pdl_scope.specs.Room.{with_names, new_among}
 use Rattle.pdl_scope.specs.Answers.{Prints}
 use Rattle.pdl_scope.specs.Scope.{arrays_of, machine, names_in, Grows, Scope as Seen}
-use Rattle.pdl_buf.specs.Made.{IsMade}
-use Rattle.pdl_buf.specs.declared.made.Made.{Made}
 use Rattle.pdl_scope.proofs.Newest.{made_first, made_more, root_within}
 use Rattle.pdl_scope.proofs.Cuts.{held_same}
 use Rattle.pdl_scope.proofs.Growing.{live_too}
@@ -55,7 +53,6 @@ loop-i-preserved g c =
     let x = c.index-bound-i.result in
     let m = c.index-outputs-i.result in
     let id = c.in_ok-id.id in
-    let made : IsMade m.ty m.dims m.elems = subst (λ (y : Made). IsMade y.ty y.dims y.elems) (sym c.index-outputs-i.is) (c.requires i m (omega arith)) in
     let last : Named ℕ = more ++ (x, id) ∷ [] in
     let items : last ≡ c.push.new.self.items = sym (c.in_ok-push.ensures.items ∙ ap (λ (n : List ℕ). more ++ (n, id) ∷ []) c.in_ok-name.ensures.cases) in
     let rest : List (List ℕ) = drop (i + 1) (take c.min-count.result xs) in
@@ -72,7 +69,7 @@ loop-i-preserved g c =
       room = subst M items (room_left now (named_too (machine mid) more) (named_too (machine mid) last) x rest id next.named is room);
       grown = grows_trans c.args.self.now s mid c.loop-i.invariant.grown c.make_like.ensures.grown;
       live = subst L items (live_too s mid more x id c.make_like.ensures.grown c.loop-i.invariant.live c.in_ok-id.ensures.value.1);
-      within = root_within s mid m c.args.self.now c.args.steps.now c.loop-i.steps c.make_like.new.steps id c.loop-i.invariant.within made c.in_ok-id.ensures.value.0 c.make_like.ensures.counted;
+      within = root_within s mid m c.args.self.now c.args.steps.now c.loop-i.steps c.make_like.new.steps id c.loop-i.invariant.within c.in_ok-id.ensures.value.0 c.make_like.ensures.counted;
       counted = made_more c.args.outputs.now i c.args.steps.now c.loop-i.steps c.make_like.new.steps m (omega arith) c.index-outputs-i.is c.loop-i.invariant.counted c.make_like.ensures.counted;
       many = ap length (sym items) ∙ one_longer more (x, id) ∙ ap (λ n. n + 1) c.loop-i.invariant.many;
     }

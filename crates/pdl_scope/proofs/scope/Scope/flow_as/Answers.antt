@@ -20,7 +20,8 @@ begin-requires-clause-flows g c =
     let made : new_root s.arrays (array_in s.arrays v) ≡ Ok (end.arrays, c.in_ok-root.root) =
     ap (λ (m : Made). new_root s.arrays m) (sym c.in_ok-made.ensures.value) ∙ ap (λ (a : Arrays). new_root a c.in_ok-made.made) (sym c.copied.ensures.same.arrays) ∙ c.in_ok-root.ensures.value.0 in
     let laws : RootLaws = record {
-      growth = record { meaning = c.meaning_laws.ensures; older = c.growth_laws.ensures.older; elements = c.growth_laws.ensures.older_elements; paths = c.growth_laws.ensures.older_paths };
+      growth = record { stay = c.flow_laws.ensures.stay; older = c.growth_laws.ensures.older; elements = c.growth_laws.ensures.older_elements; paths = c.growth_laws.ensures.older_paths };
+      meaning = c.meaning_laws.ensures;
       below = c.growth_laws.ensures.below;
       seen = c.newest_laws.ensures.root_seen;
       whole = c.newest_laws.ensures.root_whole;

@@ -9,39 +9,24 @@ use Rattle.pdl_engine.specs.Held.{written_back}
 use Rattle.pdl_engine.specs.Reading.{KeepsViews}
 use Rattle.pdl_engine.specs.State.{is_fresh}
 use Rattle.pdl_scope.specs.Holding.{AreHeld}
-use Rattle.pdl_scope.specs.LetGo.{HasFlows}
 use Rattle.pdl_scope.specs.Scope.{arrays_of, engine_of, machine, names_in, reads_limit, state_in, IsHeld, Scope as Seen}
 use Rattle.pdl_scope.proofs.FlowsStay.{listed_front}
 use Rattle.pdl_scope.proofs.Held.{all_gone, held_beside, held_by, held_of}
-use Rattle.pdl_scope.proofs.Needed.{kept_flows, kept_reads, needed_world, settled_unseen, staying_live}
+use Rattle.pdl_scope.proofs.Needed.{kept_reads, needed_world, staying_live}
 use Rattle.pdl_scope.proofs.Released.{let_go_refl}
 use Rattle.pdl_scope.proofs.scope.Scope.let_go.Goals as goal
 
 abbrev swept : State → State
 swept s = with_world (settled s) (kept s)
 
-pub release_all-requires : goal.release_all-requires
-release_all-requires g c =
+pub let_all_go-requires-clause-held : goal.let_all_go-requires-clause-held
+let_all_go-requires-clause-held g c =
     let names = names_in c.self.inside.names.entries c.self.inside.kernels in
     let ws = c.self.inside.watches.items in
     let fs = c.self.inside.flows.items in
     let e = c.self.inside.engine in
     let P : List ℕ → Type 0 = λ vs. AreHeld e (held_by names ws fs) vs in
-    record { staying = held_by names ws fs; held = subst P (sym c.deref.ensures.value) (held_beside names ws fs e c.self.inside.leaving.items c.self.invariant) }
-
-pub let_flows_go-requires : goal.let_flows_go-requires
-let_flows_go-requires g c =
-    let names = names_in c.self.inside.names.entries c.self.inside.kernels in
-    let ws = c.self.inside.watches.items in
-    let fs = c.self.inside.flows.items in
-    let e = c.self.inside.engine in
-    let P : List ℕ → Type 0 = λ vs. AreHeld e (held_by names ws fs) vs in
-    let held = subst P (sym c.deref.ensures.value) (held_beside names ws fs e c.self.inside.leaving.items c.self.invariant) in
-    record {
-      staying = held_of names ws;
-      first = e;
-      had = record { sound = c.self.invariant.whole.sound; flows = c.self.invariant.whole.flows; lets_go = c.release_all.ensures.lets_go (held_by names ws fs) held };
-    }
+    record { staying = held_of names ws; held = subst P (sym c.deref.ensures.value) (held_beside names ws fs e c.self.inside.leaving.items c.self.invariant) }
 
 pub invariant_of-self : goal.invariant_of-self
 invariant_of-self g c =
@@ -49,14 +34,13 @@ invariant_of-self g c =
     let ws = c.self.inside.watches.items in
     let fs = c.self.inside.flows.items in
     let e = c.self.inside.engine in
-    let t = c.let_flows_go.new.engine in
+    let t = c.let_all_go.new.engine in
     let vs = held_of names ws in
     let P : List ℕ → Type 0 = λ us. AreHeld e (held_by names ws fs) us in
     let held = subst P (sym c.deref.ensures.value) (held_beside names ws fs e c.self.inside.leaving.items c.self.invariant) in
-    let had : HasFlows c.release_all.new.engine fs vs e = record { sound = c.self.invariant.whole.sound; flows = c.self.invariant.whole.flows; lets_go = c.release_all.ensures.lets_go (held_by names ws fs) held } in
-    let needed = c.let_flows_go.ensures.needed vs e had in
+    let needed = c.let_all_go.ensures.needed vs held in
     let n = needs_of e.world fs vs in
-    let left = c.let_flows_go.new.flows.items in
+    let left = c.let_all_go.new.flows.items in
     let sound = c.self.invariant.whole.sound in
     let world = needed_world c.numbering_laws.ensures.again c.keeping_laws.ensures.more vs e fs t left needed in
     let many = vs ++ all_read left in
@@ -68,7 +52,7 @@ invariant_of-self g c =
         below = needed.lets_go.is_held.below;
         live = staying_live c.sweep_laws.ensures.seen e.world t.world many sound gone vs (λ v h. listed_front vs (all_read left) v h) c.self.invariant.whole.live;
         flows = (subst (λ (hs : Flows). AreFlows (arrays_of t) hs) (sym needed.flows)
-            (kept_flows c.meaning_laws.ensures c.sweep_laws.ensures.seen (arrays_of e) (arrays_of t) n.arrays sound world fs vs c.self.invariant.whole.flows (λ v h. h)));
+            (c.flow_laws.ensures.kept (arrays_of e) (arrays_of t) fs vs n.arrays sound c.self.invariant.whole.flows world (λ v h. h)));
       };
       few = c.self.invariant.few;
       slots = c.self.invariant.slots;
@@ -85,13 +69,12 @@ returns-clause-gone g c =
     let ws = c.self.inside.watches.items in
     let fs = c.self.inside.flows.items in
     let e = c.self.inside.engine in
-    let t = c.let_flows_go.new.engine in
+    let t = c.let_all_go.new.engine in
     let vs = held_of names ws in
-    let left = c.let_flows_go.new.flows.items in
+    let left = c.let_all_go.new.flows.items in
     let P : List ℕ → Type 0 = λ us. AreHeld e (held_by names ws fs) us in
     let held = subst P (sym c.deref.ensures.value) (held_beside names ws fs e c.self.inside.leaving.items c.self.invariant) in
-    let had : HasFlows c.release_all.new.engine fs vs e = record { sound = c.self.invariant.whole.sound; flows = c.self.invariant.whole.flows; lets_go = c.release_all.ensures.lets_go (held_by names ws fs) held } in
-    let needed = c.let_flows_go.ensures.needed vs e had in
+    let needed = c.let_all_go.ensures.needed vs held in
     let n = needs_of e.world fs vs in
     let world = needed_world c.numbering_laws.ensures.again c.keeping_laws.ensures.more vs e fs t left needed in
     let state : Flows → World → ℕ → State = λ hs w next. record { names = names; arrays = record { world = w; next = next }; watches = ws; flows = hs } in
@@ -99,31 +82,31 @@ returns-clause-gone g c =
     ∙ ap (λ (s : Seen). swept (machine s)) c.self.view_is
 
 pub returns-clause-unseen : goal.returns-clause-unseen
-returns-clause-unseen g c = ap tidy (returns-clause-gone g c) ∙ settled_unseen c.numbering_laws.ensures.gone (machine c.args.self.now)
+returns-clause-unseen g c = ap tidy (returns-clause-gone g c) ∙ c.numbering_laws.ensures.settled (machine c.args.self.now)
 
 pub returns-clause-stay : goal.returns-clause-stay
 returns-clause-stay g c =
     let e = c.self.inside.engine in
-    let t = c.let_flows_go.new.engine in
+    let t = c.let_all_go.new.engine in
     let sound = c.self.invariant.whole.sound in
-    let h = c.let_flows_go.ensures.goes_on e c.args.steps.now sound (c.release_all.ensures.goes_on e c.args.steps.now sound (let_go_refl e c.args.steps.now c.lazy_law.ensures)) in
+    let h = c.let_all_go.ensures.goes_on e c.args.steps.now sound (let_go_refl e c.args.steps.now c.lazy_law.ensures) in
     let P : Seen → Type 0 = λ s. (v : ℕ) → IsLive t.world v → is_fresh (engine_of s) v ≡ true → is_fresh t v ≡ true in
     subst P c.self.view_is h.left.stay
 
 pub returns-clause-counted : goal.returns-clause-counted
 returns-clause-counted g c =
     let e = c.self.inside.engine in
-    let t = c.let_flows_go.new.engine in
+    let t = c.let_all_go.new.engine in
     let sound = c.self.invariant.whole.sound in
-    let h = c.let_flows_go.ensures.goes_on e c.args.steps.now sound (c.release_all.ensures.goes_on e c.args.steps.now sound (let_go_refl e c.args.steps.now c.lazy_law.ensures)) in
-    let P : Seen → Type 0 = λ s. KeepsViews s.arrays.world t.world → c.let_flows_go.new.steps ≡ c.args.steps.now in
+    let h = c.let_all_go.ensures.goes_on e c.args.steps.now sound (let_go_refl e c.args.steps.now c.lazy_law.ensures) in
+    let P : Seen → Type 0 = λ s. KeepsViews s.arrays.world t.world → c.let_all_go.new.steps ≡ c.args.steps.now in
     subst P c.self.view_is h.counted
 
 pub returns-clause-written : goal.returns-clause-written
 returns-clause-written g c =
     let e = c.self.inside.engine in
-    let t = c.let_flows_go.new.engine in
+    let t = c.let_all_go.new.engine in
     let sound = c.self.invariant.whole.sound in
-    let h = c.let_flows_go.ensures.goes_on e c.args.steps.now sound (c.release_all.ensures.goes_on e c.args.steps.now sound (let_go_refl e c.args.steps.now c.lazy_law.ensures)) in
-    let P : Seen → Type 0 = λ s. c.let_flows_go.new.steps ≤ c.args.steps.now + written_back (engine_of s) t.world (engine_of s).world in
+    let h = c.let_all_go.ensures.goes_on e c.args.steps.now sound (let_go_refl e c.args.steps.now c.lazy_law.ensures) in
+    let P : Seen → Type 0 = λ s. c.let_all_go.new.steps ≤ c.args.steps.now + written_back (engine_of s) t.world (engine_of s).world in
     subst P c.self.view_is h.written

@@ -5,7 +5,7 @@ use Rattle.pdl_engine.specs.State.{ready_steps}
 use Rattle.pdl_scope.specs.Costs.{MovesNothing}
 use Rattle.pdl_machine.specs.Arrays.{Arrays}
 use Rattle.pdl_machine.specs.Cuts.{reshaped}
-use Rattle.pdl_scope.specs.Flowing.{kept_shape}
+use Rattle.pdl_scope.specs.Flowing.{RootsRise, kept_shape}
 use Rattle.pdl_machine.specs.State.{AreLive, State, with_arrays}
 use Rattle.pdl_machine.specs.Step.{Stepped}
 use Rattle.pdl_machine.specs.Then.{and_then}
@@ -14,7 +14,7 @@ use Rattle.pdl_scope.specs.Answers.{Prints}
 use Rattle.pdl_scope.specs.Scope.{arrays_of, engine_of, machine, names_in, scope_in, state_in, IsHeld, Grows, Scope as Seen}
 use Rattle.pdl_machine.specs.Flows.{Flows, all_read}
 use Rattle.pdl_scope.proofs.Cuts.{kept_so, made_so, reshape_breaks, reshape_made, reshape_refused, unkept_shape}
-use Rattle.pdl_scope.proofs.FlowsStay.{reads_live}
+use Rattle.pdl_scope.proofs.FlowsStay.{reads_live, roots_rise}
 use Rattle.pdl_scope.proofs.Held.{numbers}
 use Rattle.pdl_scope.proofs.Unmoved.{relaid}
 use Rattle.pdl_scope.proofs.Watched.{live_back}
@@ -32,6 +32,9 @@ kept_shape-requires-clause-read g c =
     let e = c.self.inside.engine in
     let F : Flows → Type 0 = λ fs. AreLive e.world (all_read fs) in
     subst F (sym c.deref-2.ensures.value) (reads_live (arrays_of e) c.self.inside.flows.items c.self.invariant.whole.flows)
+
+pub kept_shape-requires-clause-rising : goal.kept_shape-requires-clause-rising
+kept_shape-requires-clause-rising g c = subst RootsRise (sym c.deref-2.ensures.value) (roots_rise (arrays_of c.self.inside.engine) c.self.inside.flows.items c.self.invariant.whole.flows)
 
 pub laid_anew-requires-clause-small : goal.laid_anew-requires-clause-small
 laid_anew-requires-clause-small g c =

@@ -1,6 +1,6 @@
 use Rattle.std.proofs.Common.{◌≡◌, drop}
 use Rattle.pdl_flow.specs.Inputs.{input_of}
-use Rattle.pdl_flow.proofs.evaluation.copy_of.Given as goal
+use Rattle.pdl_flow.proofs.evaluation.lent.Given as goal
 
 -- no input before this one is the array's
 abbrev pub invariant-loop-input : goal.invariant-loop-input
