@@ -19,7 +19,7 @@ use pdl_world::{assignment_laws, part_laws};
 use std::sync::ledger::Ledger;
 
 /// So many values are found and written at once.
-pub const BLOCK: usize = 512;
+pub const BLOCK: usize = 1024;
 
 /// Why an assignment writes nothing, if it is refused: its right side doesn't fit, or a divisor is
 /// 0. All of the right side is looked at, and nothing is changed.

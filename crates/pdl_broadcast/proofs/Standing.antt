@@ -1,11 +1,12 @@
 -- Where a walk and its arguments stand.
-use Rattle.std.proofs.Common.{◌≡◌, ◌≢◌, ℕ, zero, suc, ◌+◌, ◌*◌, ◌<◌, ◌≤◌, Bool, true, false, nat_lt, ◌==◌, ℤ, pos, unsigned_abs, ◌+ℤ◌, ◌≤ℤ◌, List, [], ◌∷◌, ◌++◌, length, get_or, map, replicate, refl, ap, sym, ◌∙◌, subst, arith, ⊎_elim, slice_get, IfSome, if◌then◌else◌}
+use Rattle.std.proofs.Common.{◌≡◌, ◌≢◌, ℕ, zero, suc, ◌+◌, ◌*◌, ◌<◌, ◌≤◌, Bool, true, false, nat_lt, ◌==◌, ℤ, pos, ◌+ℤ◌, List, [], ◌∷◌, ◌++◌, length, get_or, map, replicate, refl, ap, sym, ◌∙◌, subst, arith, ⊎_elim, slice_get, IfSome, if◌then◌else◌}
 use Rattle.std.specs.List.{AllZip}
 use Rattle.std.proofs.lemmas.Bool.Decides.{nat_tests}
 use Rattle.std.proofs.lemmas.Bool.{cases_lt, lt-ltb, le-ltb}
 use Rattle.std.proofs.Math.IntN.{+ℤ_assoc, *ℤ-zero}
 use Rattle.std.proofs.Math.Nat.{mul-le-mul}
 use Rattle.std.proofs.lemmas.Int.{ints}
+use Rattle.pdl_lemmas.specs.Numbers.{abs_pos}
 use Rattle.pdl_broadcast.specs.Cursor.{CanJump, Follows, Stands, jumped, landing, next_of, rolled_of}
 use Rattle.pdl_broadcast.specs.declared.cursors.Cursor.{Cursor}
 use Rattle.pdl_shape.specs.Broadcast.{cut_to}
@@ -108,9 +109,6 @@ stands_below cuts walk cs t cursor w f s = place_below cursor.place _ s (f.sound
 
 pub follows_can : CutsWithin → (walk cs : List ℕ) (t : Triple) (cursor : Cursor) → IsWithin walk cs → rolled_of walk cs < length walk → Follows walk t cursor → Stands cs t cursor → CanJump (rolled_of walk cs) cursor
 follows_can cuts walk cs t cursor w r f s = (stands_below cuts walk cs t cursor w f s, lands_inside cuts walk cs t cursor w r f s)
-
-abs_pos : (z : ℤ) → pos 0 ≤ℤ z → pos (unsigned_abs z) ≡ z
-abs_pos z h = omega (arith, ints)
 
 pub follows_stands : CutsWithin → (walk cs : List ℕ) (t : Triple) (cursor : Cursor) → IsWithin walk cs → rolled_of walk cs < length walk → Follows walk t cursor → Stands cs t cursor → Stands (next_of walk cs) t (jumped (rolled_of walk cs) cursor)
 follows_stands cuts walk cs t cursor w r f s = abs_pos _ (lands_inside cuts walk cs t cursor w r f s).low ∙ lands walk cs t cursor w r f s

@@ -51,7 +51,7 @@ impl Form {
     }
 
     /// The numbers as a list. A list is moved.
-    fn into_list(self, alloc: Global) -> Result<Vec<i64>, AllocError>
+    pub(crate) fn into_list(self, alloc: Global) -> Result<Vec<i64>, AllocError>
         ensures { IfOk result (λ list. list.items ≡ listed self) }
     {
         match self {

@@ -5,20 +5,21 @@ use Rattle.pdl_elem.specs.declared.Ty.{Ty}
 use Rattle.pdl_elem.specs.declared.Ty.TheVariants.{Longlong}
 use Rattle.pdl_elem.specs.declared.BinaryOp.{BinaryOp}
 use Rattle.pdl_elem.specs.declared.UnaryOp.{UnaryOp}
-use Rattle.pdl_elem.specs.Types.{InRange, unary_result, binary_result}
+use Rattle.pdl_elem.specs.Types.{InRange, lowest, unary_result, binary_result}
 use Rattle.pdl_elem.specs.Numbers.{wrapped}
 use Rattle.pdl_elem.specs.Operators.{unary_value, value_of}
 
 -- A wrapped number is in the type's range, and one that is in the range already stays as it
 -- is. To wrap at 64 bits first changes nothing, so what is computed in machine words may be
--- wrapped to the type late. 0 is a number of each type, and each number of a type is one of
--- longlong.
+-- wrapped to the type late. 0 is a number of each type, each number of a type is one of longlong,
+-- and the lowest of longlong is one of longlong alone.
 pub record WrappingLaws : Type 0 where
   pub in_range : (t : Ty) (n : ℤ) → InRange t (wrapped t n)
   pub same : (t : Ty) (n : ℤ) → InRange t n → wrapped t n ≡ n
   pub late : (t : Ty) (n : ℤ) → wrapped t (int_wrap w64 n) ≡ wrapped t n
   pub zero : (t : Ty) → InRange t (pos 0)
   pub widest : (t : Ty) (n : ℤ) → InRange t n → InRange Longlong n
+  pub least : (t : Ty) → InRange t (lowest Longlong) → t ≡ Longlong
 
 -- What an operator gives is a number of the type of its result.
 pub record OperatorLaws : Type 0 where

@@ -69,11 +69,6 @@ apart_past n d z is ds h f a b (c ∷ cs) (u ∷ us) la lb w x e =
 plain : (a b : ℕ) → pos a +ℤ pos 0 ≡ pos b +ℤ pos 0 → a ≡ b
 plain a b e = omega (arith, ints, e)
 
-none_apart : (n : ℕ) → KeepApart n [] []
-none_apart n a b [] [] la lb w x e = (plain a b e, refl)
-none_apart n a b [] (u ∷ us) la lb w x e = absurd x
-none_apart n a b (c ∷ cs) us la lb w x e = absurd w
-
 -- ---- by the first size and increment of lists
 pub past_first : (n d : ℕ) (z : ℤ) (is js : List ℤ) (ds es : List ℕ) → js ≡ z ∷ is → es ≡ d ∷ ds → d ≤ 1 → KeepApart n is ds → KeepApart n js es
 past_first n d z is js ds es p q h f = subst (λ us. KeepApart n us es) (sym p) (subst (λ us. KeepApart n (z ∷ is) us) (sym q) (apart_past n d z is ds h f))
@@ -81,9 +76,6 @@ past_first n d z is js ds es p q h f = subst (λ us. KeepApart n us es) (sym p) 
 pub on_first : (n reach d : ℕ) (z : ℤ) (is js : List ℤ) (ds es : List ℕ) → js ≡ z ∷ is → es ≡ d ∷ ds → n < unsigned_abs z → reach ≡ n + unsigned_abs z * (d - 1) → KeepApart reach is ds → KeepApart n js es
 on_first n reach d z is js ds es p q h r f =
     subst (λ us. KeepApart n us es) (sym p) (subst (λ us. KeepApart n (z ∷ is) us) (sym q) (apart_on n (unsigned_abs z) d z is ds refl h (subst (λ k. KeepApart k is ds) r f)))
-
-pub no_first : (n : ℕ) (js : List ℤ) (es : List ℕ) → js ≡ [] → es ≡ [] → KeepApart n js es
-no_first n js es p q = subst (λ us. KeepApart n us es) (sym p) (subst (λ us. KeepApart n [] us) (sym q) (none_apart n))
 
 -- ---- a triple
 without : (n : ℕ) (x y : ℤ) → pos n +ℤ x ≡ pos n +ℤ y → pos 0 +ℤ x ≡ pos 0 +ℤ y

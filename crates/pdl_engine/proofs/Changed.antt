@@ -10,10 +10,6 @@ use Rattle.pdl_world.specs.Sound.{IsLive, IsSound}
 use Rattle.pdl_nodes.specs.Alike.{is_fresh_in}
 use Rattle.pdl_nodes.specs.declared.relaid.RelayFault.{RelayFault}
 use Rattle.pdl_nodes.specs.declared.relaid.RelayFault.TheVariants.{Breaks}
-use Rattle.pdl_nodes.specs.Families.{InOrder}
-use Rattle.pdl_nodes.specs.Known.{AreKnown}
-use Rattle.pdl_nodes.specs.Sized.{AreSized}
-use Rattle.pdl_engine.proofs.Readied.{only_ready}
 use Rattle.pdl_nodes.specs.Holds.{Counts}
 use Rattle.pdl_nodes.specs.Outcomes.{waiting_of}
 use Rattle.pdl_pull.specs.Outdated.{outdated as rows_outdated}
@@ -97,9 +93,9 @@ pub reshaped_lent : (facts : RowLaws) → (old new : Rows) (hs : Counts) (n v : 
 reshaped_lent facts old new hs n v h s f = fresh_is facts new v s.order.still (s.has_is v ∙ h) ∙ f
 
 -- of the family of the new root those can be lent whose base it is
-pub reshaped_bases : (facts : RowLaws) → (old new : Rows) (hs : Counts) (n v : ℕ) → IsEngine old hs n → ChangesRows old v new → BasesAreFresh v new
+pub rooted_bases : (facts : RowLaws) → (old new : Rows) (hs : Counts) (n v : ℕ) → IsEngine old hs n → ChangesRows old v new → BasesAreFresh v new
     → (u : ℕ) → IsLive (world_of old) u → root_of (world_of new) u ≡ v → is_fresh (state_of new hs n) u ≡ (base (world_of new) u == v)
-reshaped_bases facts old new hs n v i s f u l g =
+rooted_bases facts old new hs n v i s f u l g =
     let h : has new u ≡ true = s.has_is u ∙ live_has facts old u l in
     fresh_is facts new u s.order.still h ∙ f u h (sym (root_are facts new u s.order.still h) ∙ g) ∙ ap (λ b. b == v) (sym (base_are facts new u s.order.still h))
 
@@ -111,7 +107,3 @@ broken_by (Err f) e h = λ g. sym e ∙ h g
 pub unchanged_by : {A : Type 0} (P Q R : Type 0) (r : Result A RelayFault) → (P → Q) → IfErr r (λ f. f ≡ Breaks → P × R) → IfErr r (λ f. f ≡ Breaks → Q × R)
 unchanged_by P Q R (Ok x) e h = tt
 unchanged_by P Q R (Err f) e h = λ g. (e (h g).0, (h g).1)
-
--- nothing was changed
-pub unchanged_rows : (facts : RowLaws) → (rs : Rows) (v : ℕ) → InOrder rs → AreKnown rs → AreSized rs → ChangesRows rs v rs
-unchanged_rows facts rs v o k z = only_ready facts rs rs v o z (facts.kept.ready_same rs o k) (λ r h n. refl)

@@ -1,9 +1,10 @@
 -- Arrays that show each place once.
-use Rattle.std.proofs.Common.{◌≡◌, ℕ, ◌<◌, ◌≤◌, ℤ, pos, negsuc, ◌≤ℤ◌, true, false, List, length, map, get_or, Option, Some, None, inl, inr, refl, sym, ◌∙◌, ap, arith}
-use Rattle.std.specs.Prelude.{unsigned_abs}
+use Rattle.std.proofs.Common.{◌≡◌, ℕ, ◌<◌, pos, true, false, List, length, map, get_or, Option, Some, None, inl, inr, refl, sym, ◌∙◌, ap, arith}
 use Rattle.std.proofs.lemmas.Bool.{cases_Bool, cases_lt}
-use Rattle.std.proofs.lemmas.List.{get_or-map, get_or_past, length-map}
+use Rattle.std.proofs.lemmas.List.{get_or-map, length-map}
 use Rattle.std.proofs.lemmas.List.FromFn.{get_or-map-range_with_len, length-map-range_with_len}
+use Rattle.pdl_lemmas.specs.Numbers.{abs_pos}
+use Rattle.pdl_lemmas.specs.Lists.{entry_inside}
 use Rattle.pdl_shape.specs.Laws.{PositionLaws}
 use Rattle.pdl_shape.specs.Shape.{coordinates_of, position_of, size_of}
 use Rattle.pdl_shape.specs.Triple.{Triple, IsTriple, place_of}
@@ -23,30 +24,19 @@ pub flag_is : (facts : RowLaws) → (rs : Rows) (v : ℕ) → InOrder rs → has
 flag_is facts rs v o h m =
     ((o.family (row_at rs v).root (facts.seen.root_live rs (row_at rs v).root v o.still h refl)).marked (row_at rs v).base m (facts.seen.is_seen rs o.still v h).base_root).flag
 
--- places are numbers
-place_back : (z : ℤ) → pos 0 ≤ℤ z → pos (unsigned_abs z) ≡ z
-place_back (pos n) h = refl
-place_back (negsuc n) h = absurd h.le
-
 -- positions that have one place by increments that lie apart are the same
 pub position_once : PositionLaws → (t : Triple) (j k : ℕ) → IsTriple t → LiesApart t → j < size_of t.dims → k < size_of t.dims → place_at t j ≡ place_at t k → j ≡ k
 position_once laws t j k ok apart h g e =
-    let at : (p : ℕ) → p < size_of t.dims → pos (place_at t p) ≡ place_of t (coordinates_of t.dims p) = λ p l. place_back (place_of t (coordinates_of t.dims p)) (ok.reachable (coordinates_of t.dims p) (laws.coordinates_within t.dims p l)).low in
+    let at : (p : ℕ) → p < size_of t.dims → pos (place_at t p) ≡ place_of t (coordinates_of t.dims p) = λ p l. abs_pos (place_of t (coordinates_of t.dims p)) (ok.reachable (coordinates_of t.dims p) (laws.coordinates_within t.dims p l)).low in
     let same : coordinates_of t.dims j ≡ coordinates_of t.dims k = apart (coordinates_of t.dims j) (coordinates_of t.dims k) (laws.coordinates_within t.dims j h) (laws.coordinates_within t.dims k g) (sym (at j h) ∙ ap pos e ∙ at k g) in
     sym (laws.position_again t.dims j h) ∙ ap (position_of t.dims) same ∙ laws.position_again t.dims k g
-
-inside : (ps : List (Option ℕ)) (k i : ℕ) → get_or ps k None ≡ Some i → k < length ps
-inside ps k i e = elim (cases_lt k (length ps)) [
-  | inl low ↦ low
-  | inr past ↦ (let n : None ≡ Some i = sym (get_or_past ps k None past) ∙ e in cc)
-]
 
 -- two positions of a list that have one place are a repeat
 repeated : PositionsRepeat → (qs : List (Option ℕ)) (p q i : ℕ) → (p ≡ q → ⊥) → entry qs p ≡ Some i → entry qs q ≡ Some i → has_repeats qs ≡ true
 repeated twice qs p q i n e f = elim (cases_lt p q) [
-  | inl low ↦ twice qs p q i (record { order = low; inside = inside qs q i f; first = e; second = f })
+  | inl low ↦ twice qs p q i (record { order = low; inside = entry_inside qs q i f; first = e; second = f })
   | inr up ↦ elim (cases_lt q p) [
-    | inl low ↦ twice qs q p i (record { order = low; inside = inside qs p i e; first = f; second = e })
+    | inl low ↦ twice qs q p i (record { order = low; inside = entry_inside qs p i e; first = f; second = e })
     | inr same ↦ absurd (n (omega (arith, up, same)))
   ]
 ]

@@ -383,7 +383,7 @@ rooted_so old new v ty ds es o r lv same f settled =
           | inr k ↦ n (own ∙ k.1)
         ]
 
--- of the views of an array with other dimensions those can be lent whose base it is
+-- of the views of an array that becomes a root those can be lent whose base it is
 none_spare : (s : State) (v u : ℕ) (b : Bool) → root_of s.world u ≡ v → IsSpare s u → b ≡ (base s.world u == v) → b ≡ true → ⊥
 none_spare s v u b at spare is h = spare.0 (elim (eqb_tells (base s.world u) v) [
   | inl t ↦ t.1 ∙ sym at
@@ -406,8 +406,8 @@ reshaped_so newest older old new v before after ds o r l same f settled outdated
     c (λ x. (let z : false ≡ true = x in absurd (cc)))
 
 pub severed_so : NewIsLive → OlderStay → (old new : State) (v before after : ℕ) → IsResting old → IsResting new → IsLive old.world v → (root_of old.world v ≡ v → new ≡ old) → (root_of old.world v ≡ v → after ≡ before) → new.world ≡ cut old.world v
-    → ChangesFamily old v new → (root_of old.world v ≢ v → FamilyIsSettled old v new) → after ≤ before + (ready_steps old v + size_of (dims_in old.world v)) → IsWorked old (sever v) new before after
-severed_so newest older old new v before after o r l uncut spent same f settled c = elim (eqb_tells (root_of old.world v) v) [
+    → ChangesFamily old v new → (root_of old.world v ≢ v → FamilyIsSettled old v new) → (root_of old.world v ≢ v → (u : ℕ) → IsLive old.world u → root_of new.world u ≡ v → is_fresh new u ≡ (base new.world u == v)) → after ≤ before + (ready_steps old v + size_of (dims_in old.world v)) → IsWorked old (sever v) new before after
+severed_so newest older old new v before after o r l uncut spent same f settled outdated c = elim (eqb_tells (root_of old.world v) v) [
   | inl t ↦ (let uncut_is : new ≡ old = uncut t.1 in
       let none : after ≡ before = spent t.1 in
       let stays : state_after old (sever v) ≡ old = rw t.0 refl in
@@ -424,8 +424,11 @@ severed_so newest older old new v before after o r l uncut spent same f settled 
         lent = λ u g h. lent_by new old old.fresh u r.lazy same_world g (waits u g)
             (λ i. base_lent new old.world u r.lazy same_world g (ap (λ s. is_fresh s (base old.world u)) uncut_is ∙ i)) h;
       })))
-      (λ u g h e. subst (λ (s : State). IsSpare s u) (sym stays) (only_by new old old.fresh u r.lazy same_world g (waits u g) (λ b i. (o.lazy.waits u b (in_world new.world old.world u same_world g) (sym (waits u g) ∙ i)).fresh) h
-      (subst (λ (s : State). is_lent old.fresh s u ≡ false) stays (subst (λ (xs : List ℕ). is_lent xs (state_after old (sever v)) u ≡ false) all e))))
+      (λ u g h e. (
+        subst (λ (s : State). IsSpare s u) (sym stays) (only_by new old old.fresh u r.lazy same_world g (waits u g) (λ b i. (o.lazy.waits u b (in_world new.world old.world u same_world g) (sym (waits u g) ∙ i)).fresh) h
+            (subst (λ (s : State). is_lent old.fresh s u ≡ false) stays (subst (λ (xs : List ℕ). is_lent xs (state_after old (sever v)) u ≡ false) all e))),
+        λ n. absurd (n t.1),
+      ))
       (omega (arith, none)) (λ x. omega (arith, none, few)))
   | inr t ↦ (let w : World = cut old.world v in
       let cuts : state_after old (sever v) ≡ with_root old v w = rw t.0 refl in
@@ -437,8 +440,13 @@ severed_so newest older old new v before after o r l uncut spent same f settled 
       worked_of newest older old new (sever v) before after l r.sound
       (subst (λ (s : State). AreApart (map (λ p. p.0) s.pending)) (sym cuts) (apart_left (λ p. not (p.0 == v)) (but_of (root_of old.world v) old.pending) (apart_left (λ p. not (p.0 == root_of old.world v)) old.pending o.once)))
       (subst (λ (s : State). Leaves s (stay_fresh old (sever v)) new) (sym cuts) (subst (λ (xs : List ℕ). Leaves (with_root old v w) xs new) (sym others_are) two.0))
-      (λ u g h e. subst (λ (s : State). IsSpare s u) (sym cuts) (two.1 u g h
-      (subst (λ (s : State). is_lent beside s u ≡ false) cuts (subst (λ (xs : List ℕ). is_lent xs (state_after old (sever v)) u ≡ false) others_are e))))
+      (λ u g h e. (let spare : IsSpare (with_root old v w) u = two.1 u g h
+      (subst (λ (s : State). is_lent beside s u ≡ false) cuts (subst (λ (xs : List ℕ). is_lent xs (state_after old (sever v)) u ≡ false) others_are e)) in
+      subst (λ (s : State). IsSpare s u × (root_of old.world v ≢ v → root_of s.world u ≢ v)) (sym cuts) (
+        spare,
+        λ n q. none_spare (with_root old v w) v u (is_fresh new u) q spare
+            (outdated t.1 u (held_live old new u o r f.holds g) (ap (λ x. root_of x u) same ∙ q) ∙ ap (λ x. base x u == v) same) h,
+      )))
       (omega (arith, c, most)) (λ x. (let z : false ≡ true = sym t.0 ∙ x in absurd (cc))))
 ]
 

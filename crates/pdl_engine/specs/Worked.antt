@@ -156,8 +156,12 @@ pub record IsAs (script engine : State) : Type 0 where
 abbrev pub IsSpare : State → ℕ → Type 0
 IsSpare s v = (base s.world v ≢ root_of s.world v) × (waiting s v ≡ None)
 
--- but for an array with other dimensions and its views, of which no more can be
+-- but for an array that becomes a root, by a cut or by other dimensions, and its views, of which no
+-- more can be
 abbrev pub MayBeLent : State → Call → ℕ → Type 0
+MayBeLent s (sever v) u =
+    let left = state_after s (sever v) in
+    IsSpare left u × (root_of s.world v ≢ v → root_of left.world u ≢ v)
 MayBeLent s (reshape v ds) u =
     let left = state_after s (reshape v ds) in IsSpare left u × (root_of left.world u ≢ v)
 MayBeLent s c u = IsSpare (state_after s c) u

@@ -577,10 +577,10 @@ impl Engine {
     }
 
     /// Cuts an array from its parent: it becomes a root with its elements, which can be lent, and
-    /// its own views stay with it. Whatever has another root then can be lent if it could be. What
-    /// waits in the family is written back first. On a root it does nothing, and takes no memory.
-    /// Out of memory, it leaves the world, and what could be lent. It takes at most the steps of
-    /// `ready`, and one for each element.
+    /// its own views stay with it; of these those can be lent whose base the array is. Whatever has
+    /// another root then can be lent if it could be. What waits in the family is written back
+    /// first. On a root it does nothing, and takes no memory. Out of memory, it leaves the world,
+    /// and what could be lent. It takes at most the steps of `ready`, and one for each element.
     pub fn sever<L: Ledger>(&mut self, id: ArrayId, steps: &mut Steps<L>) -> Result<(), NoMemory>
         requires { IsLive self.old.world id }
         ensures root { root_of self.old.world id ≡ id → self.new ≡ self.old }
@@ -592,6 +592,9 @@ impl Engine {
         ensures settled { root_of self.old.world id ≢ id → FamilyIsSettled self.old id self.new }
         ensures stay { OnErr result (StayFresh self.old self.new) }
         ensures fresh { OnOk result (root_of self.old.world id ≢ id → is_fresh self.new id ≡ true) }
+        ensures outdated { OnOk result (root_of self.old.world id ≢ id
+            → (u : ℕ) → IsLive self.old.world u → root_of self.new.world u ≡ id
+            → is_fresh self.new u ≡ (base self.new.world u == id)) }
         ensures counted { steps.new ≤ steps.old
             + (ready_steps self.old id + size_of (dims_in self.old.world id)) }
         ensures sound { IsSound self.new.world }
@@ -611,10 +614,10 @@ impl Engine {
     /// Gives an array other dimensions: it becomes a root of its first elements, in order, with
     /// zeros after them where there are fewer, and can be lent. Each view that reaches it is
     /// derived anew by its transformation; of these those can be lent whose base the array is, and
-    /// of all others those that could be. `Breaks` comes exactly where the formula of one of these
-    /// views refuses, and changes nothing. What waits in the family is written back first. Out of
-    /// memory, it leaves the world, and what could be lent. It takes at most the steps of `ready`,
-    /// and one for each new element.
+    /// of all others those that could be. `Breaks` comes only where the formula of such a view
+    /// refuses, and there it never succeeds; it changes nothing. What waits in the family is written
+    /// back first. Out of memory, it leaves the world, and what could be lent. It takes at most the
+    /// steps of `ready`, and one for each new element.
     pub fn reshape<L: Ledger>(
         &mut self,
         id: ArrayId,

@@ -184,9 +184,9 @@ fn copied_and_listed<L: Ledger>(
 }
 
 /// Cuts an array from its parent, which is listed: it becomes a root with its elements, and its own
-/// views stay with it. On a root it does nothing. Out of memory, it leaves the world as it was, and
-/// what could be lent. It takes the steps that make the array fresh, and one for each of its
-/// elements that isn't 0.
+/// views stay with it, of which those are fresh whose base it is. On a root it does nothing. Out of
+/// memory, it leaves the world as it was, and what could be lent. It takes the steps that make the
+/// array fresh, and one for each of its elements that isn't 0.
 pub fn sever<L: Ledger>(
     table: &mut Table,
     holds: &Holds,
@@ -210,6 +210,8 @@ pub fn sever<L: Ledger>(
     ensures stay { OnErr result (RowsStayFresh table.old table.new) }
     ensures fresh { OnOk result
         ((row_at table.old id).root ≢ id → is_fresh_in table.new id ≡ true) }
+    ensures outdated { OnOk result
+        ((row_at table.old id).root ≢ id → BasesAreFresh id table.new) }
     ensures counted { steps.new ≤ steps.old
         + (outdated table.old id + waiting_size table.old (waiting_of table.old id)
         + size_of (row_at table.old id).triple.dims) }
@@ -277,8 +279,9 @@ fn reshape_relaid<L: Ledger>(
     Ok(())
 }
 
-/// Gives an array other dimensions. `Breaks` comes exactly where the formula of a view that reaches
-/// it by parents refuses, and changes nothing: all layouts are made before the first change.
+/// Gives an array other dimensions. `Breaks` comes only where the formula of a view that reaches it
+/// by parents refuses, and there it never succeeds. It changes nothing: all layouts are made before
+/// the first change.
 pub fn reshape<L: Ledger>(
     table: &mut Table,
     holds: &Holds,

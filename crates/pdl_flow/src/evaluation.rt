@@ -11,13 +11,13 @@ ghost use Rattle.pdl_flow.specs.Parts.{IsEvaluated};
 ghost use Rattle.pdl_flow.specs.Steps.{steps_in};
 ghost use Rattle.pdl_flow.specs.Answers.{NamesNoDivisor};
 
-use crate::formula::{Formula, Input};
+use crate::formula::{Formula, Input, find_input};
 use crate::kept::Kept;
 use crate::laws::meaning_laws;
 use crate::operand::{Change, Part, changed, joined, made_of};
 use pdl_buf::{Elements, Made, Steps, tick};
 use pdl_elem::Ty;
-use pdl_ops::OpFault;
+use pdl_ops::{Keeping, OpFault};
 use pdl_shape::dims_within;
 use std::alloc::Global;
 use std::sync::ledger::Ledger;
@@ -26,7 +26,8 @@ use std::sync::ledger::Ledger;
 /// operator of it divides. `Mismatch` or `TooLarge` where an operator is refused so, the left
 /// operand's refusals first; never `DivideByZero`. It takes one step of `runs`. An array that is an
 /// operand is lent to the operator; what an operator made is put into a buffer for the next one,
-/// where each element that isn't 0 is a step of `steps`.
+/// where each element that isn't 0 is a step of `steps`. The elements of the answer are kept as a
+/// list, for who assigns them.
 pub fn evaluate<L: Ledger, M: Ledger>(
     alloc: Global,
     formula: &Formula,
@@ -48,15 +49,17 @@ pub fn evaluate<L: Ledger, M: Ledger>(
 {
     meaning_laws();
     tick(runs);
-    let part = part_of(alloc, formula, inputs, steps)?;
-    Ok(made_of(alloc, part)?)
+    let part = part_of(alloc, formula, inputs, Keeping::Listed, steps)?;
+    Ok(made_of(alloc, part, Keeping::Listed)?)
 }
 
-/// What a part of a formula is.
+/// What a part of a formula is. Where an operator makes it, its elements are kept so; what is made
+/// for the operator is packed, so that it is moved into a buffer as it is.
 fn part_of<'a, L: Ledger>(
     alloc: Global,
     formula: &Formula,
     inputs: &'a [Input],
+    keeping: Keeping,
     steps: &mut Steps<L>,
 ) -> Result<Part<'a>, OpFault>
     requires formula { IsFormula (tree_of formula.now) }
@@ -67,20 +70,20 @@ fn part_of<'a, L: Ledger>(
         Formula::Number(ty, value) => Ok(Part::Own(number(alloc, *ty, *value)?)),
         Formula::Array(array) => Ok(Part::Lent(lent(*array, inputs))),
         Formula::Unary(op, operand) => {
-            let operand = part_of(alloc, operand, inputs, steps)?;
-            let made = changed(alloc, Change::Operator(*op), operand, steps)?;
+            let operand = part_of(alloc, operand, inputs, Keeping::Packed, steps)?;
+            let made = changed(alloc, Change::Operator(*op), operand, keeping, steps)?;
             Ok(Part::Own(made))
         }
         Formula::Convert(ty, operand) => {
-            let operand = part_of(alloc, operand, inputs, steps)?;
-            let made = changed(alloc, Change::Convert(*ty), operand, steps)?;
+            let operand = part_of(alloc, operand, inputs, Keeping::Packed, steps)?;
+            let made = changed(alloc, Change::Convert(*ty), operand, keeping, steps)?;
             Ok(Part::Own(made))
         }
         Formula::Binary(op, left, right) => {
             both_have_inputs(left, right, inputs);
-            let left = part_of(alloc, left, inputs, steps)?;
-            let right = part_of(alloc, right, inputs, steps)?;
-            let made = joined(alloc, *op, left, right, steps)?;
+            let left = part_of(alloc, left, inputs, Keeping::Packed, steps)?;
+            let right = part_of(alloc, right, inputs, Keeping::Packed, steps)?;
+            let made = joined(alloc, *op, left, right, keeping, steps)?;
             Ok(Part::Own(made))
         }
     }
@@ -117,10 +120,8 @@ fn lent(array: u64, inputs: &[Input]) -> &Kept
     ensures value { result.now ≡ value_in inputs.now array }
     ensures made { IsArray result.now }
 {
-    for input in inputs {
-        if input.array == array {
-            return &input.value;
-        }
+    match find_input(inputs, array) {
+        Some(kept) => kept,
+        None => unreachable!(),
     }
-    unreachable!()
 }

@@ -1,7 +1,8 @@
 //! Formulas, and what stands in the place of their arrays.
-ghost use Rattle.std.specs.Prelude.{◌≡◌, ◌+◌, IfOk, OnOk, OnErr};
+ghost use Rattle.std.specs.Prelude.{◌≡◌, ◌+◌, IfOk, OnOk, OnErr, is_some, option_map};
 ghost use Rattle.pdl_numbers.specs.Typed.{count_moved};
 ghost use Rattle.pdl_buf.specs.Made.{IsMade, array_of};
+ghost use Rattle.pdl_flow.specs.Inputs.{input_of};
 
 use crate::kept::Kept;
 use pdl_buf::{Steps, Strided};
@@ -73,4 +74,23 @@ impl Input {
             value: Kept::copied(alloc, window, steps)?,
         })
     }
+}
+
+/// The value of an array by its first input.
+pub(crate) fn find_input(inputs: &[Input], array: u64) -> Option<&Kept>
+    ensures { option_map (λ k. k.now) result ≡ input_of inputs.now array }
+{
+    for input in inputs {
+        if input.array == array {
+            return Some(&input.value);
+        }
+    }
+    None
+}
+
+/// Whether an array has an input.
+pub fn has_input(inputs: &[Input], array: u64) -> bool
+    ensures { result ≡ is_some (input_of inputs.now array) }
+{
+    find_input(inputs, array).is_some()
 }

@@ -8,7 +8,7 @@ use pdl_buf::{
     Buf, Made, Steps, Strided, buf_of, buf_of_elements, strided, strided_is_in_range, strided_type,
 };
 use pdl_elem::{Ty, wrapping_laws};
-use pdl_ops::convert;
+use pdl_ops::{Keeping, convert_kept};
 use pdl_shape::{Dims, copy_dims, whole_triple};
 use std::alloc::{AllocError, Global};
 use std::marker::Model;
@@ -82,7 +82,7 @@ impl Kept {
         ensures counted { OnOk result (steps.new ≡ steps.old + count_moved window.now.elems) }
         ensures err { OnErr result (steps.new ≡ steps.old) }
     {
-        let made = copy_of(alloc, window)?;
+        let made = copy_of(alloc, window, Keeping::Packed)?;
         Kept::new(alloc, made, steps)
     }
 
@@ -94,12 +94,16 @@ impl Kept {
     }
 }
 
-/// What a window shows, packed at its type.
-pub(crate) fn copy_of(alloc: Global, window: &Strided<'_>) -> Result<Made, AllocError>
+/// What a window shows, whose elements are kept so.
+pub(crate) fn copy_of(
+    alloc: Global,
+    window: &Strided<'_>,
+    keeping: Keeping,
+) -> Result<Made, AllocError>
     ensures value { IfOk result (λ made. made ≡ array_of window.now) }
     ensures made { IfOk result IsArray }
 {
     wrapping_laws();
     strided_is_in_range(window);
-    convert(alloc, strided_type(window), window)
+    convert_kept(alloc, strided_type(window), window, keeping)
 }

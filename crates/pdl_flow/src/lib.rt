@@ -9,5 +9,5 @@ mod laws;
 mod operand;
 
 pub use evaluation::evaluate;
-pub use formula::{Formula, Input};
+pub use formula::{Formula, Input, has_input};
 pub use laws::meaning_laws;

@@ -1,15 +1,13 @@
 -- Lines that are appended one after another.
-use Rattle.std.proofs.Common.{◌≡◌, ◌⊎◌, ℕ, ◌+◌, ◌<◌, ◌≤◌, Bool, true, false, List, [], ◌∷◌, ◌++◌, length, take, length-append, refl, ap, ap₂, sym, ◌∙◌, subst, arith, append_assoc, inl, inr}
+use Rattle.std.proofs.Common.{◌≡◌, ℕ, ◌+◌, ◌≤◌, Bool, true, false, List, [], ◌∷◌, ◌++◌, length, take, length-append, refl, ap, ap₂, sym, ◌∙◌, subst, arith, append_assoc}
 use Rattle.std.specs.Prelude.{nat_lt, ◌||◌, Result, Ok, Err, OnOk, OnErr, codes}
 use Rattle.std.specs.List.{list_any}
-use Rattle.std.proofs.lemmas.Bool.{ltb-false, lt-ltb, le-ltb, ltb-true}
+use Rattle.std.proofs.lemmas.Bool.{ltb-false, lt-ltb, ltb-true}
 use Rattle.std.proofs.lemmas.Grind.{flat_map-append}
-use Rattle.std.proofs.lemmas.List.{append-nil}
 use Rattle.std.proofs.lemmas.List.Folds.{list_any-append}
 use Rattle.std.proofs.Math.Seq.{take-append_seam}
 use Rattle.pdl_lex.specs.Limits.{statement_limit}
 use Rattle.pdl_image.specs.declared.ImageFault.{ImageFault}
-use Rattle.pdl_image.specs.declared.ImageFault.TheVariants.{TooLong, NoMemory}
 use Rattle.pdl_image.specs.declared.TheConstants.{LONGEST_DUMP}
 use Rattle.pdl_image.specs.Lines.{Line, line_text, whole_line, script_of}
 use Rattle.pdl_image.specs.Dump.{is_too_long}
@@ -54,39 +52,11 @@ lines_join text lines others =
 
 -- ---- texts that begin with others
 
-pub begins_all : (text : List ℕ) → Begins text text
-begins_all text = record { rest = []; is = sym (append-nil text) }
-
-pub begins_by : (text more new : List ℕ) → new ≡ text ++ more → Begins text new
-begins_by text more new e = record { rest = more; is = e }
-
 pub begins_then : (old mid new : List ℕ) → Begins old mid → Begins mid new → Begins old new
 begins_then old mid new first second =
     record { rest = first.rest ++ second.rest; is = second.is ∙ ap (λ t. t ++ second.rest) first.is ∙ append_assoc old first.rest second.rest }
 
 -- ---- appending
-
--- no line
-pub adds_none : (old : List ℕ) → length old ≤ LONGEST_DUMP → Adds old old [] (Ok tt)
-adds_none old room = record {
-  ok = sym (append-nil old);
-  fits = ap (λ (b : Bool). b || false) (le-ltb LONGEST_DUMP (length old + 0) (omega arith));
-  front = begins_all old;
-  refused = tt;
-}
-
--- no memory
-pub adds_nothing : (old : List ℕ) (lines : List Line) → Adds old old lines (Err NoMemory)
-adds_nothing old lines = record { ok = tt; fits = tt; front = begins_all old; refused = λ e. absurd (other e) }
-  where
-    other : NoMemory ≡ TooLong → ⊥
-    other e = cc
-
-pub memory_is : (old new : List ℕ) (lines : List Line) (e : ImageFault) → e ≡ NoMemory → Begins old new → Adds old new lines (Err e)
-memory_is old new lines e is front = record { ok = tt; fits = tt; front = front; refused = λ f. absurd (other (sym is ∙ f)) }
-  where
-    other : NoMemory ≡ TooLong → ⊥
-    other e = cc
 
 -- there is room behind what was appended
 pub adds_room : (old new : List ℕ) (lines : List Line) (u : Unit {0}) → Adds old new lines (Ok u) → length new ≤ LONGEST_DUMP
@@ -133,56 +103,6 @@ adds_first old new lines others e first = record {
 }
 
 -- ---- one line
-
-one_line : (l : Line) → script_of (l ∷ []) ≡ line_text l ++ codes ";\n"
-one_line l = append-nil (whole_line l)
-
--- how many bytes a line has with its end
-long_line : (l : Line) → length (script_of (l ∷ [])) ≡ length (line_text l) + 2
-long_line l = ap length (one_line l) ∙ length-append (line_text l) (codes ";\n")
-
-is_long : (old : List ℕ) (l : Line) → is_too_long old (l ∷ []) ≡ (nat_lt LONGEST_DUMP (length old + (length (line_text l) + 2)) || (nat_lt statement_limit (length (line_text l)) || false))
-is_long old l = ap (λ (n : ℕ). nat_lt LONGEST_DUMP (length old + n) || (nat_lt statement_limit (length (line_text l)) || false)) (long_line l)
-
-pub line_added : (old : List ℕ) (l : Line) (bytes whole new : List ℕ) (u : Unit {0}) → bytes ≡ line_text l → length bytes ≤ statement_limit
-    → length old + (length bytes + 2) ≤ LONGEST_DUMP → whole ≡ bytes ++ codes ";\n" → new ≡ old ++ whole → Adds old new (l ∷ []) (Ok u)
-line_added old l bytes whole new u is short room end appended =
-    let same : length bytes ≡ length (line_text l) = ap length is in
-    let text : new ≡ old ++ script_of (l ∷ []) = appended ∙ ap (λ t. old ++ t) (end ∙ ap (λ t. t ++ codes ";\n") is ∙ sym (one_line l)) in
-    record {
-      ok = text;
-      fits = is_long old l
-          ∙ ap₂ (λ (a b : Bool). a || (b || false)) (le-ltb LONGEST_DUMP (length old + (length (line_text l) + 2)) (omega arith))
-          (le-ltb statement_limit (length (line_text l)) (omega arith));
-      front = begins_by old (script_of (l ∷ [])) new text;
-      refused = tt;
-    }
-
-pub line_refused : (old : List ℕ) (l : Line) (bytes : List ℕ) (e : ImageFault) → bytes ≡ line_text l
-    → (statement_limit < length bytes) ⊎ (LONGEST_DUMP < length old + (length bytes + 2)) → Adds old old (l ∷ []) (Err e)
-line_refused old l bytes e is (inl long) =
-    let same : length bytes ≡ length (line_text l) = ap length is in
-    record {
-      ok = tt;
-      fits = tt;
-      front = begins_all old;
-      refused = λ _. is_long old l
-          ∙ ap (λ (b : Bool). nat_lt LONGEST_DUMP (length old + (length (line_text l) + 2)) || (b || false)) (lt-ltb statement_limit (length (line_text l)) (omega arith))
-          ∙ or_true (nat_lt LONGEST_DUMP (length old + (length (line_text l) + 2)));
-    }
-  where
-    or_true : (b : Bool) → (b || true) ≡ true
-    or_true true = refl
-    or_true false = refl
-line_refused old l bytes e is (inr long) =
-    let same : length bytes ≡ length (line_text l) = ap length is in
-    record {
-      ok = tt;
-      fits = tt;
-      front = begins_all old;
-      refused = λ _. is_long old l
-          ∙ ap (λ (a : Bool). a || (nat_lt statement_limit (length (line_text l)) || false)) (lt-ltb LONGEST_DUMP (length old + (length (line_text l) + 2)) (omega arith));
-    }
 
 -- ---- lines that are taken back where they are refused
 

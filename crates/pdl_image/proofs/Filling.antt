@@ -1,10 +1,10 @@
 -- Parts of lines and lines, by as many members as were looked at.
-use Rattle.std.proofs.Common.{◌≡◌, ℕ, zero, suc, ◌+◌, ◌-◌, ◌*◌, ◌<◌, ◌≤◌, min, Bool, true, false, cond, List, [], ◌∷◌, ◌++◌, length, take, drop, get_or, map, ℤ, pos, ◌^◌, refl, ap, ap₂, sym, ◌∙◌, subst, arith, append_assoc}
+use Rattle.std.proofs.Common.{◌≡◌, ℕ, zero, suc, ◌+◌, ◌-◌, ◌*◌, ◌<◌, min, Bool, true, false, cond, List, [], ◌∷◌, ◌++◌, length, take, drop, get_or, map, ℤ, pos, ◌^◌, refl, ap, ap₂, sym, ◌∙◌, subst, arith, append_assoc}
 use Rattle.std.specs.Prelude.{flat_map, Result, Ok, Err}
 use Rattle.std.specs.Result.{IsErrAnd}
 use Rattle.std.specs.List.{list_any, range_with_len}
 use Rattle.std.proofs.lemmas.Grind.{flat_map-append}
-use Rattle.std.proofs.lemmas.List.{take_more, map-append, append-nil, length-take-le, length-take, length-drop}
+use Rattle.std.proofs.lemmas.List.{take_more, map-append, append-nil, length-take-le, length-take, length-drop, take_all}
 use Rattle.std.proofs.lemmas.List.FromFn.{map-range_with_len_more}
 use Rattle.pdl_lemmas.specs.Tests.{by_lt}
 use Rattle.pdl_slices.specs.declared.SliceArg.{SliceArg}
@@ -22,20 +22,6 @@ use Rattle.pdl_image.specs.Adding.{Adds, bytes_to, piece_bytes}
 use Rattle.pdl_image.proofs.Adding.{adds_first, adds_then}
 
 -- ---- texts of members, each behind a comma
-
--- one member more behind those before it
-pub member_more : {A : Type 0} (f : A → List ℕ) (old line comma new : List ℕ) (xs : List A) (i : ℕ) (d : A) → i < length xs
-    → line ≡ old ++ flat_map (λ x. 44 ∷ f x) (take i xs) → comma ≡ line ++ 44 ∷ [] → new ≡ comma ++ f (get_or xs i d)
-    → new ≡ old ++ flat_map (λ x. 44 ∷ f x) (take (i + 1) xs)
-member_more {A} f old line comma new xs i d within before behind pushed =
-    let g : A → List ℕ = λ x. 44 ∷ f x in
-    let x : A = get_or xs i d in
-    pushed ∙ ap (λ t. t ++ f x) (behind ∙ ap (λ t. t ++ 44 ∷ []) before)
-    ∙ append_assoc (old ++ flat_map g (take i xs)) (44 ∷ []) (f x)
-    ∙ append_assoc old (flat_map g (take i xs)) (g x)
-    ∙ ap (λ t. old ++ (flat_map g (take i xs) ++ t)) (sym (append-nil (g x)))
-    ∙ ap (λ t. old ++ t) (sym (flat_map-append g (take i xs) (x ∷ [])))
-    ∙ ap (λ t. old ++ flat_map g t) (sym (take_more xs i d within))
 
 more_args-append : (args : List SliceArg) (a : SliceArg) → more_args_text (args ++ a ∷ []) ≡ more_args_text args ++ 44 ∷ arg_text a
 more_args-append [] a = append-nil (44 ∷ arg_text a)
@@ -56,12 +42,6 @@ arg_more old line comma new args i d within before behind pushed =
 
 -- ---- parts of lists
 
-taken_all : (xs : List ℤ) (n : ℕ) → length xs ≤ n → take n xs ≡ xs
-taken_all [] zero h = refl
-taken_all [] (suc n) h = refl
-taken_all (x ∷ xs) zero h = absurd (omega arith)
-taken_all (x ∷ xs) (suc n) h = ap (λ t. x ∷ t) (taken_all xs n (omega arith))
-
 -- a list by its first ones and the others
 parted : (xs : List ℤ) (n : ℕ) → xs ≡ take n xs ++ drop n xs
 parted [] zero = refl
@@ -74,7 +54,7 @@ take_capped : (xs : List ℤ) (most n : ℕ) → n ≡ min most (length xs) → 
 take_capped xs most n is =
     by_lt most (length xs)
     (λ below. ap (λ (k : ℕ). take k xs) (least n most (length xs) is below))
-    (λ past. taken_all xs n (omega arith) ∙ sym (taken_all xs most past))
+    (λ past. take_all n xs (omega arith) ∙ sym (take_all most xs past))
   where
     least : (n most len : ℕ) → n ≡ min most len → most < len → n ≡ most
     least n most len e h = omega arith
@@ -157,10 +137,6 @@ least_more name first ns i d within =
 
 -- ---- lines of given numbers
 
-pub given_none : (name : List ℕ) (first : ℕ) (ns : List ℤ) → list_any is_set ns ≡ false → given_lines name first ns ≡ []
-given_none name first [] e = refl
-given_none name first (n ∷ ns) e = ap (λ b. cond b (piece_line name first (first + length ns) n ns ∷ []) []) e
-
 pub given_some : (name : List ℕ) (first : ℕ) (ns : List ℤ) → list_any is_set ns ≡ true
     → (n : ℤ) × ((more : List ℤ) × ((ns ≡ n ∷ more) × (given_lines name first ns ≡ piece_line name first (first + length more) n more ∷ [])))
 given_some name first [] e = absurd (wrong e)
@@ -169,13 +145,6 @@ given_some name first [] e = absurd (wrong e)
     wrong e = cc
 given_some name first (n ∷ ns) e =
     (n, (ns, (refl, ap (λ b. cond b (piece_line name first (first + length ns) n ns ∷ []) []) e)))
-
-pub some_set : (ns : List ℤ) → list_any is_set ns ≡ true → 0 < length ns
-some_set [] e = absurd (wrong e)
-  where
-    wrong : false ≡ true → ⊥
-    wrong e = cc
-some_set (n ∷ ns) e = omega arith
 
 -- ---- ends of names
 
@@ -242,11 +211,6 @@ piece_refused old mid new name ty ds es k ns e below is before refused =
     ∙ ap (λ ms. (front ++ filling_lines name (PIECE * k) ms) ++ rest) (sym is) in
     subst (λ ls. Adds old new ls (Err e)) (sym whole)
     (adds_first old new (front ++ one) rest e (adds_then old mid new front one tt (Err e) before refused))
-
--- no piece came: the array's own line was refused
-pub zeros_refused : (old new name : List ℕ) (ty : Ty) (ds : List ℕ) (es : List ℤ) (e : ImageFault) → Adds old new (root_line name ty ds ∷ []) (Err e) → Adds old new (root_lines name ty ds es) (Err e)
-zeros_refused old new name ty ds es e refused =
-    adds_first old new (root_line name ty ds ∷ []) (flat_map (piece_lines name es) (range_with_len 0 (piece_count (length es)))) e refused
 
 -- a piece and its place are small
 pub piece_small : (es ns : List ℤ) (k : ℕ) → ns ≡ take PIECE (drop (PIECE * k) es) → k < piece_count (length es) → length es < 2 ^ 31 → PIECE * k + length ns < 2 ^ 32

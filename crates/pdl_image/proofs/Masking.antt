@@ -8,6 +8,7 @@ use Rattle.std.proofs.lemmas.List.{get_or-set_same, get_or-set_other, get_or-tak
 use Rattle.std.proofs.lemmas.List.Elements.{All-weaker}
 use Rattle.std.proofs.lemmas.List.Folds.{list_any-append, list_any_none}
 use Rattle.std.proofs.lemmas.List.FromFn.{get_or-map-range_with_len, length-map-range_with_len, take-map-range_with_len}
+use Rattle.std.proofs.Math.Bool.{or-true, or-false}
 use Rattle.pdl_lemmas.specs.Tests.{by_lt, by_test}
 use Rattle.pdl_choice.specs.Where.{is_set, rises}
 use Rattle.pdl_image.specs.declared.TheConstants.{PIECE}
@@ -101,25 +102,17 @@ part_none first n = part_is first n [] (replicate n (pos 0)) (length-replicate n
 in_more : (places : List ℕ) (q p : ℕ) → is_in (places ++ q ∷ []) p ≡ (is_in places p || ((q == p) || false))
 in_more places q p = list_any-append (λ c. c == p) places (q ∷ [])
 
-or_true : (b : Bool) → (b || true) ≡ true
-or_true true = refl
-or_true false = refl
-
-or_false : (b : Bool) → (b || false) ≡ b
-or_false true = refl
-or_false false = refl
-
 -- a place that is looked at, and one that isn't
 mark_here : (places : List ℕ) (q p : ℕ) → q ≡ p → mark (places ++ q ∷ []) p ≡ pos 1
 mark_here places q p same =
-    ap (λ b. cond b (pos 1) (pos 0)) (in_more places q p ∙ ap (λ b. is_in places p || (b || false)) (same_eqb q p same) ∙ or_true (is_in places p))
+    ap (λ b. cond b (pos 1) (pos 0)) (in_more places q p ∙ ap (λ b. is_in places p || (b || false)) (same_eqb q p same) ∙ or-true (is_in places p))
   where
     same_eqb : (q p : ℕ) → q ≡ p → (q == p) ≡ true
     same_eqb q p e = by_test (q == p) (λ t. t) (λ f. absurd (eqb-false q p f e))
 
 mark_other : (places : List ℕ) (q p : ℕ) → (q ≡ p → ⊥) → mark (places ++ q ∷ []) p ≡ mark places p
 mark_other places q p other =
-    ap (λ b. cond b (pos 1) (pos 0)) (in_more places q p ∙ ap (λ b. is_in places p || (b || false)) (ne_eqb q p other) ∙ or_false (is_in places p))
+    ap (λ b. cond b (pos 1) (pos 0)) (in_more places q p ∙ ap (λ b. is_in places p || (b || false)) (ne_eqb q p other) ∙ or-false (is_in places p))
 
 part_marked : (first n : ℕ) (places : List ℕ) (q : ℕ) → first ≤ q → q - first < n → slice_set (mask_part first n places) (q - first) (pos 1) ≡ mask_part first n (places ++ q ∷ [])
 part_marked first n places q low within =
@@ -185,7 +178,7 @@ pub in_earlier : (places : List ℕ) (i end p : ℕ) → All (λ q. end ≤ q) (
 in_earlier places i end p past low =
     sym (in_parts places i p ∙ ap (λ b. is_in (take i places) p || b)
     (in_none_of (drop i places) p (All-weaker (λ q. end ≤ q) (λ q. ¬ (q ≡ p)) (λ q h e. omega arith) (drop i places) past))
-    ∙ or_false (is_in (take i places) p))
+    ∙ or-false (is_in (take i places) p))
 
 -- lists that have the same places of a part
 pub parts_agree : (first n : ℕ) (places others : List ℕ) → ((p : ℕ) → first ≤ p → p < first + n → is_in places p ≡ is_in others p)

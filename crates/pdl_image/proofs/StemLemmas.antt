@@ -197,13 +197,3 @@ least_begins cs = ap (λ (n : ℕ). least_from n 0 cs) (all (length cs))
 pub least_goes_on : (cs : List ℕ) (n k : ℕ) → least_free cs ≡ least_from (n - k) k cs → k < n → is_in cs k ≡ true → least_free cs ≡ least_from (n - (k + 1)) (k + 1) cs
 least_goes_on cs n k so_far below there =
     so_far ∙ ap (λ (m : ℕ). least_from m k cs) (one_less n k below) ∙ ap (λ b. cond b (least_from (n - (k + 1)) (k + 1) cs) k) there
-
-pub least_found : (cs : List ℕ) (n k : ℕ) → least_free cs ≡ least_from n k cs → is_in cs k ≡ false → k ≡ least_free cs
-least_found cs zero k so_far free = sym so_far
-least_found cs (suc n) k so_far free = sym (so_far ∙ ap (λ b. cond b (least_from n (k + 1) cs) k) free)
-
-pub least_ends : (cs : List ℕ) (n k : ℕ) → least_free cs ≡ least_from (n - k) k cs → k ≡ n → n ≡ least_free cs
-least_ends cs n k so_far all = sym all ∙ sym (so_far ∙ ap (λ (m : ℕ). least_from m k cs) (none n k all))
-  where
-    none : (n k : ℕ) → k ≡ n → n - k ≡ 0
-    none n k e = omega arith

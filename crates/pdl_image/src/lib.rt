@@ -6,6 +6,8 @@
 
 ghost use Rattle.std.specs.Prelude.{◌≡◌};
 
+mod calls;
+mod draft;
 mod laws;
 mod lines;
 mod masks;

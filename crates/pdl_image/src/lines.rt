@@ -1,118 +1,154 @@
-//! The texts of lines, and a line that is appended to the text of a dump.
-ghost use Rattle.std.specs.Prelude.{◌≡◌, ◌≤◌, ◌<◌, ◌^◌, ◌+◌, ◌++◌, ◌∷◌, [], length, IfOk, OnErr, codes, decimal};
-ghost use Rattle.pdl_image.specs.Adding.{Adds, piece_bytes};
-ghost use Rattle.pdl_image.specs.Lines.{Line, kernel_line, least_line, line_text, root_line, same_line, undef_line};
+//! The texts of lines, each of which takes the place of what was there before.
+ghost use Rattle.std.specs.Prelude.{◌≡◌, ◌<◌, ◌^◌, ◌+◌, ◌++◌, length, OnOk, codes, decimal};
+ghost use Rattle.pdl_image.specs.Adding.{piece_bytes};
+ghost use Rattle.pdl_image.specs.Dump.{affine_call, edge_number};
+ghost use Rattle.pdl_image.specs.Lines.{chosen, kernel_line, least_line, line_text, ranged, root_line, same_line, undef_line, view_line};
 
-use crate::numbers::{push_count, push_numbers, push_quoted, push_sizes};
-use crate::{ImageFault, LONGEST_DUMP};
+use crate::calls::{push_affine, push_chosen, push_range};
+use crate::numbers::{begin, push_count, push_numbers, push_quoted, push_sizes};
+use pdl_affine::Affine;
+use pdl_choice::Edge;
 use pdl_elem::{Ty, type_word};
-use pdl_lex::STATEMENT_LIMIT;
 use pdl_shape::{Dims, dims_list};
-use std::alloc::{AllocError, Global};
+use std::alloc::AllocError;
 
-/// Appends a line and its end, if there is room for it.
-pub fn add_line(text: &mut Vec<u8>, mut line: Vec<u8>) -> Result<(), ImageFault>
-    requires { length text.old.items ≤ LONGEST_DUMP }
-    ensures adds { (l : Line) → line.items ≡ line_text l →
-        Adds text.old.items text.new.items (l ∷ []) result }
-    ensures room { length text.new.items ≤ LONGEST_DUMP }
-    ensures err { OnErr result (text.new.items ≡ text.old.items) }
-{
-    if STATEMENT_LIMIT < line.len() || LONGEST_DUMP - text.len() < line.len() + 2 {
-        return Err(ImageFault::TooLong);
-    }
-    line.extend_from_slice(b";\n")?;
-    text.extend_from_slice(&line)?;
-    Ok(())
-}
-
-/// The text of a kernel's definition.
-pub fn kernel_text(
-    alloc: Global,
+/// Writes the definition of a kernel.
+pub fn write_kernel(
+    line: &mut Vec<u8>,
     name: &[u8],
     signature: &[u8],
     code: &[u8],
-) -> Result<Vec<u8>, AllocError>
-    ensures { IfOk result (λ line. line.items
+) -> Result<(), AllocError>
+    ensures { OnOk result (line.new.items
         ≡ line_text (kernel_line name.now signature.now code.now)) }
 {
-    let mut line = Vec::from_slice(alloc, b"pp_def(")?;
-    push_quoted(&mut line, name)?;
+    begin(line, b"pp_def(")?;
+    push_quoted(line, name)?;
     line.push(b',')?;
-    push_quoted(&mut line, signature)?;
+    push_quoted(line, signature)?;
     line.push(b',')?;
-    push_quoted(&mut line, code)?;
-    line.push(b')')?;
-    Ok(line)
+    push_quoted(line, code)?;
+    Ok(line.push(b')')?)
 }
 
-/// The text that makes an array of zeros.
-pub fn root_text(alloc: Global, name: &[u8], ty: Ty, dims: &Dims) -> Result<Vec<u8>, AllocError>
-    ensures { IfOk result (λ line. line.items ≡ line_text (root_line name.now ty dims.now)) }
+/// Writes what makes an array of zeros.
+pub fn write_root(line: &mut Vec<u8>, name: &[u8], ty: Ty, dims: &Dims) -> Result<(), AllocError>
+    ensures { OnOk result (line.new.items ≡ line_text (root_line name.now ty dims.now)) }
 {
-    let mut line = Vec::from_slice(alloc, name)?;
+    begin(line, name)?;
     line.extend_from_slice(b" = zeroes(")?;
     line.extend_from_slice(type_word(ty).as_bytes())?;
-    push_sizes(&mut line, dims_list(dims))?;
-    line.push(b')')?;
-    Ok(line)
+    push_sizes(line, dims_list(dims))?;
+    Ok(line.push(b')')?)
 }
 
-/// The text that names elements of an array up to the first position: what stands before it.
-fn element_text(alloc: Global, name: &[u8], first: usize) -> Result<Vec<u8>, AllocError>
-    ensures { IfOk result (λ line. line.items
+/// Begins a text that names elements of an array, up to the first position.
+fn begin_elements(line: &mut Vec<u8>, name: &[u8], first: usize) -> Result<(), AllocError>
+    ensures { OnOk result (line.new.items
         ≡ (name.now ++ codes "->flat->slice(\"") ++ decimal first) }
 {
-    let mut line = Vec::from_slice(alloc, name)?;
+    begin(line, name)?;
     line.extend_from_slice(b"->flat->slice(\"")?;
-    push_count(&mut line, first as u64)?;
-    Ok(line)
+    push_count(line, first as u64)
 }
 
-/// The text that gives elements from a position on these numbers, at least one.
-pub fn piece_text(
-    alloc: Global,
+/// Writes what gives these numbers, at least one, to the elements from a position on.
+pub fn write_piece(
+    line: &mut Vec<u8>,
     name: &[u8],
     first: usize,
     numbers: &[i64],
-) -> Result<Vec<u8>, AllocError>
+) -> Result<(), AllocError>
     requires some { 0 < length numbers.now }
     requires small { first + length numbers.now < 2 ^ 32 }
-    ensures { IfOk result (λ line. line.items ≡ piece_bytes name.now first numbers.now) }
+    ensures { OnOk result (line.new.items ≡ piece_bytes name.now first numbers.now) }
 {
-    let mut line = element_text(alloc, name, first)?;
+    begin_elements(line, name, first)?;
     line.push(b':')?;
-    push_count(&mut line, (first + numbers.len() - 1) as u64)?;
+    push_count(line, (first + numbers.len() - 1) as u64)?;
     line.extend_from_slice(b"\") .= pdl [")?;
-    push_numbers(&mut line, numbers)?;
-    line.push(b']')?;
-    Ok(line)
+    push_numbers(line, numbers)?;
+    Ok(line.push(b']')?)
 }
 
-/// The text that gives an element the least longlong.
-pub fn least_text(alloc: Global, name: &[u8], position: usize) -> Result<Vec<u8>, AllocError>
-    ensures { IfOk result (λ line. line.items ≡ line_text (least_line name.now position)) }
+/// Writes what gives an element the least longlong.
+pub fn write_least(line: &mut Vec<u8>, name: &[u8], position: usize) -> Result<(), AllocError>
+    ensures { OnOk result (line.new.items ≡ line_text (least_line name.now position)) }
 {
-    let mut line = element_text(alloc, name, position)?;
-    line.extend_from_slice(b"\") .= longlong(1) << 63")?;
-    Ok(line)
+    begin_elements(line, name, position)?;
+    line.extend_from_slice(b"\") .= longlong(1) << 63")
 }
 
-/// The text that gives another name to an array.
-pub fn same_text(alloc: Global, name: &[u8], other: &[u8]) -> Result<Vec<u8>, AllocError>
-    ensures { IfOk result (λ line. line.items ≡ line_text (same_line name.now other.now)) }
+/// Begins the text of a view, up to the call.
+fn begin_view(line: &mut Vec<u8>, name: &[u8], parent: &[u8]) -> Result<(), AllocError>
+    ensures { OnOk result (line.new.items
+        ≡ ((name.now ++ codes " = ") ++ parent.now) ++ codes "->") }
 {
-    let mut line = Vec::from_slice(alloc, name)?;
+    begin(line, name)?;
     line.extend_from_slice(b" = ")?;
-    line.extend_from_slice(other)?;
-    Ok(line)
+    line.extend_from_slice(parent)?;
+    line.extend_from_slice(b"->")
 }
 
-/// The text that ends a name.
-pub fn undef_text(alloc: Global, name: &[u8]) -> Result<Vec<u8>, AllocError>
-    ensures { IfOk result (λ line. line.items ≡ line_text (undef_line name.now)) }
+/// Writes what makes an affine view.
+pub fn write_affine(
+    line: &mut Vec<u8>,
+    name: &[u8],
+    parent: &[u8],
+    affine: &Affine,
+) -> Result<(), AllocError>
+    ensures { OnOk result (line.new.items
+        ≡ line_text (view_line name.now parent.now (affine_call affine.now))) }
 {
-    let mut line = Vec::from_slice(alloc, b"undef ")?;
-    line.extend_from_slice(name)?;
-    Ok(line)
+    begin_view(line, name, parent)?;
+    push_affine(line, affine)
+}
+
+/// Writes what makes a view by the array that chooses.
+pub fn write_chosen(
+    line: &mut Vec<u8>,
+    name: &[u8],
+    parent: &[u8],
+    word: &[u8],
+    index: &[u8],
+) -> Result<(), AllocError>
+    ensures { OnOk result (line.new.items
+        ≡ line_text (view_line name.now parent.now (chosen word.now index.now))) }
+{
+    begin_view(line, name, parent)?;
+    push_chosen(line, word, index)
+}
+
+/// Writes what makes a view of windows.
+pub fn write_range(
+    line: &mut Vec<u8>,
+    name: &[u8],
+    parent: &[u8],
+    index: &[u8],
+    sizes: &[i64],
+    edge: Edge,
+) -> Result<(), AllocError>
+    ensures { OnOk result (line.new.items
+        ≡ line_text (view_line name.now parent.now
+        (ranged index.now sizes.now (edge_number edge)))) }
+{
+    begin_view(line, name, parent)?;
+    push_range(line, index, sizes, edge)
+}
+
+/// Writes what gives another name to an array.
+pub fn write_same(line: &mut Vec<u8>, name: &[u8], other: &[u8]) -> Result<(), AllocError>
+    ensures { OnOk result (line.new.items ≡ line_text (same_line name.now other.now)) }
+{
+    begin(line, name)?;
+    line.extend_from_slice(b" = ")?;
+    line.extend_from_slice(other)
+}
+
+/// Writes what ends a name.
+pub fn write_undef(line: &mut Vec<u8>, name: &[u8]) -> Result<(), AllocError>
+    ensures { OnOk result (line.new.items ≡ line_text (undef_line name.now)) }
+{
+    begin(line, b"undef ")?;
+    line.extend_from_slice(name)
 }

@@ -8,8 +8,9 @@ ghost use Rattle.pdl_image.specs.Adding.{Adds, mask_part};
 ghost use Rattle.pdl_image.specs.Dump.{mask_of, root_lines};
 ghost use Rattle.pdl_image.specs.Stems.{is_in};
 
-use crate::pieces::{add_piece, add_zeros, piece_count, piece_len};
-use crate::{ImageFault, LONGEST_DUMP, PIECE};
+use crate::draft::Draft;
+use crate::pieces::{add_piece, piece_count, piece_len};
+use crate::{ImageFault, PIECE};
 use pdl_elem::Ty;
 use pdl_shape::{Dims, elements_of};
 use std::alloc::{AllocError, Global};
@@ -80,22 +81,21 @@ fn mask_piece(
 
 /// Appends the lines of a mask that is 1 at the listed places, which rise.
 pub fn add_mask(
-    text: &mut Vec<u8>,
+    draft: &mut Draft,
     name: &[u8],
     dims: &Dims,
     places: &[u32],
 ) -> Result<(), ImageFault>
-    requires room { length text.old.items ≤ LONGEST_DUMP }
-    requires rises { IsNonDecreasing places.now }
+    requires { IsNonDecreasing places.now }
     ensures { let mask = mask_of (size_of dims.now) places.now in
-        Adds text.old.items text.new.items (root_lines name.now Byte dims.now mask) result }
+        Adds draft.old draft.new (root_lines name.now Byte dims.now mask) result }
 {
     let count = elements_of(dims) as usize;
-    add_zeros(text, name, Ty::Byte, dims)?;
+    draft.add_zeros(name, Ty::Byte, dims)?;
     for k in 0..piece_count(count) {
         let first = PIECE * k;
-        let piece = mask_piece(*text.allocator(), places, first, piece_len(count, first))?;
-        add_piece(text, name, first, &piece)?;
+        let piece = mask_piece(draft.alloc(), places, first, piece_len(count, first))?;
+        add_piece(draft, name, first, &piece)?;
     }
     Ok(())
 }

@@ -9,6 +9,14 @@ use itoa::Buffer;
 use pdl_slices::SliceArg;
 use std::alloc::AllocError;
 
+/// Begins a text with these bytes, in place of what was there before.
+pub fn begin(line: &mut Vec<u8>, bytes: &[u8]) -> Result<(), AllocError>
+    ensures { OnOk result (line.new.items ≡ bytes.now) }
+{
+    line.clear();
+    line.extend_from_slice(bytes)
+}
+
 /// Appends a number.
 pub fn push_number(line: &mut Vec<u8>, number: i64) -> Result<(), AllocError>
     ensures { OnOk result (line.new.items ≡ line.old.items ++ signed_decimal number) }

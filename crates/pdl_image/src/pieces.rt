@@ -1,13 +1,10 @@
 //! The lines of roots: zeros, and then the elements piece by piece.
 ghost use Rattle.std.specs.Prelude.{◌≡◌, ◌≤◌, ◌<◌, ◌^◌, ◌+◌, ◌-◌, ◌∷◌, [], min, map, take, drop, length, IfOk};
-ghost use Rattle.std.specs.List.{list_any};
-ghost use Rattle.pdl_choice.specs.Where.{is_set};
 ghost use Rattle.pdl_image.specs.Adding.{Adds};
-ghost use Rattle.pdl_image.specs.Dump.{as_listed, filling_lines, given_lines, least_lines, piece_count, root_lines};
-ghost use Rattle.pdl_image.specs.Lines.{root_line};
+ghost use Rattle.pdl_image.specs.Dump.{as_listed, filling_lines, least_lines, piece_count, root_lines};
 
-use crate::lines::{add_line, least_text, piece_text, root_text};
-use crate::{ImageFault, LONGEST_DUMP, PIECE};
+use crate::draft::Draft;
+use crate::{ImageFault, PIECE};
 use pdl_buf::{Strided, strided_dims, strided_read, strided_type};
 use pdl_elem::Ty;
 use pdl_shape::{Dims, elements_of};
@@ -30,90 +27,53 @@ fn all_listed(alloc: Global, numbers: &[i64]) -> Result<Vec<i64>, AllocError>
         .collect(alloc)
 }
 
-/// Whether some number isn't 0.
-fn is_any_set(numbers: &[i64]) -> bool
-    ensures { result ≡ list_any is_set numbers.now }
-{
-    numbers.iter().any(|number| *number != 0)
-}
-
-/// Appends the line that gives numbers to the elements from a position on, unless all of them
-/// are 0.
-fn add_given(
-    text: &mut Vec<u8>,
-    name: &[u8],
-    first: usize,
-    listed: &[i64],
-) -> Result<(), ImageFault>
-    requires room { length text.old.items ≤ LONGEST_DUMP }
-    requires small { first + length listed.now < 2 ^ 32 }
-    ensures { Adds text.old.items text.new.items (given_lines name.now first listed.now) result }
-{
-    if !is_any_set(listed) {
-        return Ok(());
-    }
-    let line = piece_text(*text.allocator(), name, first, listed)?;
-    add_line(text, line)
-}
-
 /// Appends the line that gives an element the least longlong, if it has this number.
 fn add_if_least(
-    text: &mut Vec<u8>,
+    draft: &mut Draft,
     name: &[u8],
     position: usize,
     number: i64,
 ) -> Result<(), ImageFault>
-    requires { length text.old.items ≤ LONGEST_DUMP }
-    ensures { Adds text.old.items text.new.items
+    ensures { Adds draft.old draft.new
         (least_lines name.now position (number ∷ [])) result }
 {
     if number != i64::MIN {
+        let _len = draft.len();
         return Ok(());
     }
-    let line = least_text(*text.allocator(), name, position)?;
-    add_line(text, line)
+    draft.add_least(name, position)
 }
 
 /// Appends a line for each least longlong among the elements from a position on.
 fn add_leasts(
-    text: &mut Vec<u8>,
+    draft: &mut Draft,
     name: &[u8],
     first: usize,
     numbers: &[i64],
 ) -> Result<(), ImageFault>
-    requires room { length text.old.items ≤ LONGEST_DUMP }
-    requires small { first + length numbers.now < 2 ^ 32 }
-    ensures { Adds text.old.items text.new.items (least_lines name.now first numbers.now) result }
+    requires { first + length numbers.now < 2 ^ 32 }
+    ensures { Adds draft.old draft.new (least_lines name.now first numbers.now) result }
 {
+    let _len = draft.len();
     for (i, number) in numbers.iter().enumerate() {
-        add_if_least(text, name, first + i, *number)?;
+        add_if_least(draft, name, first + i, *number)?;
     }
     Ok(())
 }
 
 /// Appends the lines that fill the elements from a position on.
 pub fn add_piece(
-    text: &mut Vec<u8>,
+    draft: &mut Draft,
     name: &[u8],
     first: usize,
     numbers: &[i64],
 ) -> Result<(), ImageFault>
-    requires room { length text.old.items ≤ LONGEST_DUMP }
-    requires small { first + length numbers.now < 2 ^ 32 }
-    ensures { Adds text.old.items text.new.items (filling_lines name.now first numbers.now) result }
+    requires { first + length numbers.now < 2 ^ 32 }
+    ensures { Adds draft.old draft.new (filling_lines name.now first numbers.now) result }
 {
-    let listed = all_listed(*text.allocator(), numbers)?;
-    add_given(text, name, first, &listed)?;
-    add_leasts(text, name, first, numbers)
-}
-
-/// Appends the line that makes an array of zeros.
-pub fn add_zeros(text: &mut Vec<u8>, name: &[u8], ty: Ty, dims: &Dims) -> Result<(), ImageFault>
-    requires { length text.old.items ≤ LONGEST_DUMP }
-    ensures { Adds text.old.items text.new.items (root_line name.now ty dims.now ∷ []) result }
-{
-    let line = root_text(*text.allocator(), name, ty, dims)?;
-    add_line(text, line)
+    let listed = all_listed(draft.alloc(), numbers)?;
+    draft.add_given(name, first, &listed)?;
+    add_leasts(draft, name, first, numbers)
 }
 
 /// How many pieces so many elements have.
@@ -163,38 +123,36 @@ fn piece_of(alloc: Global, elems: &Strided<'_>, first: usize) -> Result<Vec<i64>
 }
 
 /// Appends the lines of a root that a window shows.
-pub fn add_root(text: &mut Vec<u8>, name: &[u8], elems: &Strided<'_>) -> Result<(), ImageFault>
-    requires { length text.old.items ≤ LONGEST_DUMP }
-    ensures { Adds text.old.items text.new.items
+pub fn add_root(draft: &mut Draft, name: &[u8], elems: &Strided<'_>) -> Result<(), ImageFault>
+    ensures { Adds draft.old draft.new
         (root_lines name.now elems.now.ty elems.now.dims elems.now.elems) result }
 {
     let dims = strided_dims(elems);
-    add_zeros(text, name, strided_type(elems), dims)?;
+    draft.add_zeros(name, strided_type(elems), dims)?;
     for k in 0..piece_count(elements_of(dims) as usize) {
-        let piece = piece_of(*text.allocator(), elems, PIECE * k)?;
-        add_piece(text, name, PIECE * k, &piece)?;
+        let piece = piece_of(draft.alloc(), elems, PIECE * k)?;
+        add_piece(draft, name, PIECE * k, &piece)?;
     }
     Ok(())
 }
 
 /// Appends the lines of a root of these numbers.
 pub fn add_numbers(
-    text: &mut Vec<u8>,
+    draft: &mut Draft,
     name: &[u8],
     ty: Ty,
     dims: &Dims,
     numbers: &[i64],
 ) -> Result<(), ImageFault>
-    requires room { length text.old.items ≤ LONGEST_DUMP }
-    requires small { length numbers.now < 2 ^ 31 }
-    ensures { Adds text.old.items text.new.items
+    requires { length numbers.now < 2 ^ 31 }
+    ensures { Adds draft.old draft.new
         (root_lines name.now ty dims.now numbers.now) result }
 {
-    add_zeros(text, name, ty, dims)?;
+    draft.add_zeros(name, ty, dims)?;
     for k in 0..piece_count(numbers.len()) {
         let first = PIECE * k;
         let end = first + piece_len(numbers.len(), first);
-        add_piece(text, name, first, &numbers[first..end])?;
+        add_piece(draft, name, first, &numbers[first..end])?;
     }
     Ok(())
 }

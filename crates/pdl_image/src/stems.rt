@@ -3,7 +3,7 @@ ghost use Rattle.std.specs.Prelude.{◌≡◌, ◌<◌, ◌+◌, ◌++◌, [], I
 ghost use Rattle.std.specs.List.{cons_option};
 ghost use Rattle.pdl_image.specs.Stems.{index_name, is_in, least_free, name_at, stem, stem_in, underscores};
 
-use crate::numbers::push_count;
+use crate::numbers::{begin, push_count};
 use pdl_elem::Name;
 use std::alloc::{AllocError, Global};
 use std::marker::Model;
@@ -108,20 +108,18 @@ fn stem(alloc: Global, count: u64) -> Result<Vec<u8>, AllocError>
     Ok(bytes)
 }
 
-/// The name of the array with a number.
-pub fn name_at(alloc: Global, stem: &[u8], k: u64) -> Result<Vec<u8>, AllocError>
-    ensures { IfOk result (λ name. name.items ≡ name_at stem.now k) }
+/// Makes a text the name of the array with a number.
+pub fn write_name_at(name: &mut Vec<u8>, stem: &[u8], k: u64) -> Result<(), AllocError>
+    ensures { OnOk result (name.new.items ≡ name_at stem.now k) }
 {
-    let mut name = Vec::from_slice(alloc, stem)?;
-    push_count(&mut name, k)?;
-    Ok(name)
+    begin(name, stem)?;
+    push_count(name, k)
 }
 
-/// The name of the array that a view chooses by.
-pub fn index_name(alloc: Global, stem: &[u8]) -> Result<Vec<u8>, AllocError>
-    ensures { IfOk result (λ name. name.items ≡ index_name stem.now) }
+/// Makes a text the name of the array that a view chooses by.
+pub fn write_index_name(name: &mut Vec<u8>, stem: &[u8]) -> Result<(), AllocError>
+    ensures { OnOk result (name.new.items ≡ index_name stem.now) }
 {
-    let mut name = Vec::from_slice(alloc, stem)?;
-    name.push(b'i')?;
-    Ok(name)
+    begin(name, stem)?;
+    Ok(name.push(b'i')?)
 }

@@ -7,11 +7,11 @@ ghost use Rattle.pdl_image.specs.Image.{with_array, with_lines};
 ghost use Rattle.pdl_image.specs.Lines.{kernel_line, same_line, script_of};
 ghost use Rattle.pdl_image.specs.Stems.{index_name, name_at};
 
-use crate::lines::{add_line, kernel_text, same_text};
+use crate::ImageFault;
+use crate::draft::Draft;
 use crate::pieces::add_root;
-use crate::stems::{index_name, name_at};
+use crate::stems::{write_index_name, write_name_at};
 use crate::views::{add_undefs, add_view};
-use crate::{ImageFault, LONGEST_DUMP};
 use pdl_buf::Strided;
 use pdl_elem::{Name, Text};
 use pdl_world::Trans;
@@ -28,7 +28,11 @@ use std::marker::Model;
 pub struct ImageWriter {
     stem: Name,
     arrays: u64,
-    text: Vec<u8>,
+    draft: Draft,
+    // the names of the line that is made: of its array, and of what this is made of
+    name: Vec<u8>,
+    other: Vec<u8>,
+    index: Vec<u8>,
 }
 
 impl Model for ImageWriter {
@@ -38,75 +42,69 @@ impl Model for ImageWriter {
 
     ghost Value = { Image };
 
-    ghost view = { λ w. record { stem = w.stem; arrays = w.arrays; text = w.text.items } };
+    ghost view = { λ w. record { stem = w.stem; arrays = w.arrays; text = w.draft } };
 
-    ghost invariant = { λ w. (w.arrays ≤ length w.text.items) × (length w.text.items ≤ LONGEST_DUMP) };
+    ghost invariant = { λ w. (w.arrays ≤ length w.draft) × (length w.draft ≤ LONGEST_DUMP) };
 }
 
 /// Takes back what stands past the mark where lines were refused.
-fn settled(text: &mut Vec<u8>, mark: usize, done: Result<(), ImageFault>) -> Result<(), ImageFault>
+fn settled(draft: &mut Draft, mark: usize, done: Result<(), ImageFault>) -> Result<(), ImageFault>
     ensures result { result ≡ done }
-    ensures ok { OnOk done (text.new.items ≡ text.old.items) }
-    ensures err { OnErr done (text.new.items ≡ take mark text.old.items) }
+    ensures ok { OnOk done (draft.new ≡ draft.old) }
+    ensures err { OnErr done (draft.new ≡ take mark draft.old) }
 {
     if done.is_err() {
-        text.truncate(mark);
+        draft.truncate(mark);
     }
     done
 }
 
 /// Appends the definition of a kernel, or nothing.
 fn write_kernel(
-    text: &mut Vec<u8>,
+    draft: &mut Draft,
     name: &[u8],
     signature: &[u8],
     code: &[u8],
 ) -> Result<(), ImageFault>
-    requires { length text.old.items ≤ LONGEST_DUMP }
     ensures { let lines = kernel_line name.now signature.now code.now ∷ [] in
-        Writes text.old.items text.new.items lines result }
+        Writes draft.old draft.new lines result }
 {
-    let line = kernel_text(*text.allocator(), name, signature, code)?;
-    add_line(text, line)
+    draft.add_kernel(name, signature, code)
 }
 
 /// Appends the line of a name, or nothing.
-fn write_name(text: &mut Vec<u8>, name: &[u8], other: &[u8]) -> Result<(), ImageFault>
-    requires { length text.old.items ≤ LONGEST_DUMP }
+fn write_name(draft: &mut Draft, name: &[u8], other: &[u8]) -> Result<(), ImageFault>
     ensures { let lines = same_line name.now other.now ∷ [] in
-        Writes text.old.items text.new.items lines result }
+        Writes draft.old draft.new lines result }
 {
-    let line = same_text(*text.allocator(), name, other)?;
-    add_line(text, line)
+    draft.add_same(name, other)
 }
 
 /// Appends the lines of a root, or none.
-fn write_root(text: &mut Vec<u8>, name: &[u8], elems: &Strided<'_>) -> Result<(), ImageFault>
-    requires { length text.old.items ≤ LONGEST_DUMP }
+fn write_root(draft: &mut Draft, name: &[u8], elems: &Strided<'_>) -> Result<(), ImageFault>
     ensures { let lines = root_lines name.now elems.now.ty elems.now.dims elems.now.elems in
-        Writes text.old.items text.new.items lines result }
+        Writes draft.old draft.new lines result }
 {
-    let mark = text.len();
-    let done = add_root(text, name, elems);
-    settled(text, mark, done)
+    let mark = draft.len();
+    let done = add_root(draft, name, elems);
+    settled(draft, mark, done)
 }
 
 /// Appends the lines of a view, or none.
 fn write_view(
-    text: &mut Vec<u8>,
+    draft: &mut Draft,
     name: &[u8],
     parent: &[u8],
     index: &[u8],
     trans: &Trans,
 ) -> Result<(), ImageFault>
-    requires room { length text.old.items ≤ LONGEST_DUMP }
-    requires well_formed { IsTrue (is_well_formed trans.now) }
+    requires { IsTrue (is_well_formed trans.now) }
     ensures { let lines = view_lines name.now parent.now index.now trans.now in
-        Writes text.old.items text.new.items lines result }
+        Writes draft.old draft.new lines result }
 {
-    let mark = text.len();
-    let done = add_view(text, name, parent, index, trans);
-    settled(text, mark, done)
+    let mark = draft.len();
+    let done = add_view(draft, name, parent, index, trans);
+    settled(draft, mark, done)
 }
 
 impl ImageWriter {
@@ -117,7 +115,10 @@ impl ImageWriter {
         ImageWriter {
             stem,
             arrays: 0,
-            text: Vec::new(alloc),
+            draft: Draft::new(alloc),
+            name: Vec::new(alloc),
+            other: Vec::new(alloc),
+            index: Vec::new(alloc),
         }
     }
 
@@ -132,7 +133,7 @@ impl ImageWriter {
             IfErr result (λ f. f ≡ ImageFault.TooLong → is_too_long self.old.text lines ≡ true) }
     {
         write_kernel(
-            &mut self.text,
+            &mut self.draft,
             name.bytes(),
             signature.bytes(),
             code.bytes(),
@@ -150,8 +151,8 @@ impl ImageWriter {
             elems.now.elems in
             IfErr result (λ f. f ≡ ImageFault.TooLong → is_too_long self.old.text lines ≡ true) }
     {
-        let name = name_at(*self.text.allocator(), self.stem.bytes(), id)?;
-        write_root(&mut self.text, &name, elems)?;
+        write_name_at(&mut self.name, self.stem.bytes(), id)?;
+        write_root(&mut self.draft, &self.name, elems)?;
         self.arrays += 1;
         Ok(())
     }
@@ -170,11 +171,10 @@ impl ImageWriter {
             (name_at self.old.stem parent) (index_name self.old.stem) trans.now in
             IfErr result (λ f. f ≡ ImageFault.TooLong → is_too_long self.old.text lines ≡ true) }
     {
-        let alloc = *self.text.allocator();
-        let name = name_at(alloc, self.stem.bytes(), id)?;
-        let parent = name_at(alloc, self.stem.bytes(), parent)?;
-        let index = index_name(alloc, self.stem.bytes())?;
-        write_view(&mut self.text, &name, &parent, &index, trans)?;
+        write_name_at(&mut self.name, self.stem.bytes(), id)?;
+        write_name_at(&mut self.other, self.stem.bytes(), parent)?;
+        write_index_name(&mut self.index, self.stem.bytes())?;
+        write_view(&mut self.draft, &self.name, &self.other, &self.index, trans)?;
         self.arrays += 1;
         Ok(())
     }
@@ -189,8 +189,8 @@ impl ImageWriter {
         ensures refused { let lines = same_line name.now (name_at self.old.stem id) ∷ [] in
             IfErr result (λ f. f ≡ ImageFault.TooLong → is_too_long self.old.text lines ≡ true) }
     {
-        let other = name_at(*self.text.allocator(), self.stem.bytes(), id)?;
-        write_name(&mut self.text, name.bytes(), &other)
+        write_name_at(&mut self.other, self.stem.bytes(), id)?;
+        write_name(&mut self.draft, name.bytes(), &self.other)
     }
 
     /// Writes the ends of the arrays' own names, and gives the whole text. A refusal gives up the
@@ -206,9 +206,12 @@ impl ImageWriter {
         let ImageWriter {
             stem,
             arrays,
-            mut text,
+            mut draft,
+            mut name,
+            other: _other,
+            index: _index,
         } = self;
-        add_undefs(&mut text, stem.bytes(), arrays)?;
-        Ok(text)
+        add_undefs(&mut draft, &mut name, stem.bytes(), arrays)?;
+        Ok(draft.into_text())
     }
 }

@@ -3,3 +3,4 @@ pub mod Options
 pub mod Results
 pub mod Numbers
 pub mod Lists
+pub mod KnownBytes

@@ -10,23 +10,24 @@ use Rattle.pdl_elem.specs.Types.{InRange}
 use Rattle.pdl_shape.specs.Shape.{size_of}
 use Rattle.pdl_lexemes.specs.declared.Lexeme.{Lexeme}
 use Rattle.pdl_lexemes.specs.Laws.{FillsArray}
+use Rattle.pdl_lexemes.specs.Limits.{number_limit, long_limit}
 use Rattle.pdl_lexemes.specs.Lists.{signed, shared, with_length, type_of, ListPart, SpellsList, an_item, some_items, a_list, number, minus, nested, first, more, empty, filled}
 use Rattle.pdl_lemmas.specs.Options.{none_some, some_inj, map_elim}
 use Rattle.pdl_lexemes.proofs.ListDims.{shared_is}
 
 -- a number of 63 bits and a sign
 abbrev Fits63 : ℤ → Type 0
-Fits63 z = nat_abs z ≤ 9223372036854775807
+Fits63 z = nat_abs z ≤ number_limit
 
 record SignedIs (n : ℕ) (z : ℤ) : Type 0 where
-  small : n ≤ 9223372036854775807
+  small : n ≤ number_limit
   value : z ≡ pos n
 
 signed_is : (n : ℕ) (z : ℤ) → signed n ≡ Some z → SignedIs n z
-signed_is n z e = of_test (nat_le n 9223372036854775807) refl e
+signed_is n z e = of_test (nat_le n number_limit) refl e
   where
-    of_test : (b : Bool) → nat_le n 9223372036854775807 ≡ b → (if b then Some (pos n) else None) ≡ Some z → SignedIs n z
-    of_test true t k = record { small = leb-true n 9223372036854775807 t; value = sym (some_inj k) }
+    of_test : (b : Bool) → nat_le n number_limit ≡ b → (if b then Some (pos n) else None) ≡ Some z → SignedIs n z
+    of_test true t k = record { small = leb-true n number_limit t; value = sym (some_inj k) }
     of_test false t k = absurd (none_some k)
 
 fits_signed : (n : ℕ) (z : ℤ) → signed n ≡ Some z → Fits63 z
@@ -94,14 +95,14 @@ in_longlong : (z : ℤ) → Fits63 z → InRange Longlong z
 in_longlong (pos n) h = (omega (arith, ints), omega (arith, ints))
 in_longlong (negsuc n) h = (omega (arith, ints), omega (arith, ints))
 
-in_long : (z : ℤ) → nat_abs z ≤ 2147483647 → InRange Long z
+in_long : (z : ℤ) → nat_abs z ≤ long_limit → InRange Long z
 in_long (pos n) h = (omega (arith, ints), omega (arith, ints))
 in_long (negsuc n) h = (omega (arith, ints), omega (arith, ints))
 
 abbrev is_wide : ℤ → Bool
-is_wide z = nat_lt 2147483647 (nat_abs z)
+is_wide z = nat_lt long_limit (nat_abs z)
 
-not_wide : (n : ℕ) → nat_lt 2147483647 n ≡ false → n ≤ 2147483647
+not_wide : (n : ℕ) → nat_lt long_limit n ≡ false → n ≤ long_limit
 not_wide n t = grind (arith, nat_tests)
 
 none_wide : (es : List ℤ) → list_any is_wide es ≡ false → All (InRange Long) es

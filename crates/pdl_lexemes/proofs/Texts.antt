@@ -2,11 +2,12 @@
 use Rattle.std.proofs.Common.{◌≡◌, ℕ, zero, suc, ◌+◌, ◌-◌, ◌<◌, ◌==◌, Bool, true, false, ◌||◌, List, [], ◌∷◌, ◌++◌, length, take, drop, refl, sym, ◌∙◌, ap, ap₂, subst, arith, eqb-true, true≢false}
 use Rattle.std.specs.Prelude.{Option, Some, None, Result, Ok, Err, IfOk, All}
 use Rattle.std.specs.Char.{is_ascii_digit}
-use Rattle.std.proofs.Math.Seq.{take-append_seam, drop-append_seam}
-use Rattle.std.proofs.lemmas.List.{take-append-le, drop-drop}
+use Rattle.std.proofs.Math.Seq.{take-append_seam}
+use Rattle.std.proofs.lemmas.List.{take-append-le}
 use Rattle.std.proofs.lemmas.List.Elements.{All-nil, All-cons}
 use Rattle.pdl_lemmas.specs.Options.{some_inj, none_some, choose}
 use Rattle.pdl_lemmas.specs.Tests.{by_test}
+use Rattle.pdl_lemmas.specs.Lists.{drop_behind}
 use Rattle.pdl_elem.specs.declared.Ty.{Ty}
 use Rattle.pdl_elem.specs.Types.{type_word}
 use Rattle.pdl_elem.specs.declared.Ty.TheVariants.{Sbyte, Byte, Short, Ushort, Long, Ulong, Longlong}
@@ -78,10 +79,6 @@ lacks_either quote text is none =
     or_true true e = refl
     or_true false e = e
 
--- what stands behind bytes at a place
-behind : (source : List ℕ) (at : ℕ) (front rest : List ℕ) → drop at source ≡ front ++ rest → drop (at + length front) source ≡ rest
-behind source at front rest e = sym (drop-drop (length front) at source) ∙ ap (drop (length front)) e ∙ drop-append_seam front rest
-
 -- the token of these bytes at a place
 abbrev placed_at : ℕ → TokenKind → List ℕ → Token
 placed_at at kind bytes = record { kind = kind; from = at; to = at + length bytes }
@@ -95,7 +92,7 @@ inside_there : (source : List ℕ) (at : ℕ) (kind : TokenKind) (b : ℕ) (bs r
     bytes_at source (inside_of (placed_at at kind (b ∷ bs))) ≡ take (length bs - 1) bs
 inside_there source at kind b bs rest e some =
     let size : at + suc (length bs) - 1 - (at + 1) ≡ length bs - 1 = omega (arith, some) in
-    let text : drop (at + 1) source ≡ bs ++ rest = behind source at (b ∷ []) (bs ++ rest) e in
+    let text : drop (at + 1) source ≡ bs ++ rest = drop_behind source at (b ∷ []) (bs ++ rest) e in
     ap₂ (λ (n : ℕ) (text : List ℕ). take n text) size text ∙ take-append-le (length bs - 1) bs rest (omega arith)
 
 -- whether a lexeme is no name and no string
@@ -140,10 +137,10 @@ with_token source t (Err fault) holds all = tt
 
 all_hold : (source : List ℕ) {at : ℕ} {text : List ℕ} {answer : Result (List Token) LexFault} → MeansFrom at text answer → drop at source ≡ text → IfOk answer (AllHold source)
 all_hold source at_end e = All-nil (HoldsText source)
-all_hold source (a_blank {at = at} {b = b} {bs = bs} blank h) e = all_hold source h (behind source at (b ∷ []) bs e)
-all_hold source (a_comment {at = at} {b = b} line {bs = bs} hash one_line end h) e = all_hold source h (behind source at (b ∷ line) bs e)
+all_hold source (a_blank {at = at} {b = b} {bs = bs} blank h) e = all_hold source h (drop_behind source at (b ∷ []) bs e)
+all_hold source (a_comment {at = at} {b = b} line {bs = bs} hash one_line end h) e = all_hold source h (drop_behind source at (b ∷ line) bs e)
 all_hold source (a_token {at = at} {kind = kind} bytes {bs = bs} {answer = answer} is longest h) e =
-    with_token source (placed_at at kind bytes) answer (token_holds source at kind bytes bs is e) (all_hold source h (behind source at bytes bs e))
+    with_token source (placed_at at kind bytes) answer (token_holds source at kind bytes bs is e) (all_hold source h (drop_behind source at bytes bs e))
 all_hold source (no_token blank hash none) e = tt
 
 pub lexemes_hold : TextsHaveOneMeaning → LexemesHoldTexts

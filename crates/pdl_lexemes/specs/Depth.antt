@@ -8,6 +8,7 @@ use Rattle.pdl_lexemes.specs.declared.checks.TheConstants.{MOST_OPERATORS}
 use Rattle.pdl_lexemes.specs.declared.Lexeme.{Lexeme}
 use Rattle.pdl_lexemes.specs.declared.Lexeme.TheVariants.{Number, Open, Close, OpenSquare, CloseSquare, Arrow, Operator, Prefix}
 use Rattle.pdl_lexemes.specs.ListReading.{ReadPart, list_read}
+use Rattle.pdl_lexemes.specs.Limits.{number_limit}
 use Rattle.pdl_lexemes.specs.Squares.{square_limit}
 
 -- one more operator, where no square bracket is open
@@ -47,10 +48,10 @@ abbrev pub is_too_deep : List Lexeme → Bool
 is_too_deep ts = goes_beyond no_counts ts
 
 abbrev pub is_large : Lexeme → Bool
-is_large (Number n) = nat_lt 9223372036854775807 n
+is_large (Number n) = nat_lt number_limit n
 is_large _ = false
 
--- whether a number is above 9223372036854775807
+-- whether a number is above the greatest number of a text
 abbrev pub has_large : List Lexeme → Bool
 has_large ts = list_any is_large ts
 

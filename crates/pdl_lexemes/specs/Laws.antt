@@ -1,8 +1,9 @@
 -- What the definitions promise to the crates above. Each is the contract of a public function.
-use Rattle.std.specs.Prelude.{◌≡◌, ◌↔◌, ◌≤◌, ℕ, ℤ, List, [], ◌∷◌, length, true, ◌||◌, Option, None, Some, unwrap_or, All, is_some, Ok}
+use Rattle.std.specs.Prelude.{◌≡◌, ◌↔◌, ◌≤◌, ℕ, ℤ, pos, List, [], ◌∷◌, length, true, ◌||◌, Option, None, Some, unwrap_or, All, is_some, Ok}
 use Rattle.pdl_elem.specs.Tables.{found_in}
 use Rattle.pdl_elem.specs.declared.Ty.{Ty}
-use Rattle.pdl_elem.specs.Types.{InRange, type_word}
+use Rattle.pdl_elem.specs.declared.Ty.TheVariants.{Long, Longlong}
+use Rattle.pdl_elem.specs.Types.{InRange, highest, type_word}
 use Rattle.pdl_shape.specs.Shape.{size_of}
 use Rattle.pdl_lex.specs.declared.Token.{Token}
 use Rattle.pdl_lex.specs.declared.TokenKind.TheVariants.{Word as IsWord}
@@ -13,6 +14,7 @@ use Rattle.pdl_lexemes.specs.declared.Lexeme.{Lexeme}
 use Rattle.pdl_lexemes.specs.declared.Lexeme.TheVariants.{OpenSquare, Word}
 use Rattle.pdl_lexemes.specs.declared.Span.{Span}
 use Rattle.pdl_lexemes.specs.declared.WordKind.TheVariants.{OfType}
+use Rattle.pdl_lexemes.specs.Limits.{number_limit, long_limit}
 use Rattle.pdl_lexemes.specs.Lists.{SpellsList, a_list, type_of, HoldsRagged}
 use Rattle.pdl_lexemes.specs.ListReading.{read_part, list_read}
 use Rattle.pdl_lexemes.specs.Depth.{operator_limit, without_shape, ragged_in, is_too_deep}
@@ -77,7 +79,11 @@ pub record TypeWordsAreWords : Type 0 where
   pub words : (ty : Ty) → kind_of (type_word ty) ≡ Some IsWord
   pub types : (ty : Ty) (span : Span) → word_of (type_word ty) span ≡ Word (OfType ty) span
 
--- how many square brackets are open at once at most, and how many operators stand outside them
+-- how many square brackets are open at once at most, how many operators stand outside them, and
+-- how large numbers are: those of a text are numbers of longlong, and those of a list of long are
+-- numbers of long
 pub record LimitsAre : Type 0 where
   pub squares : square_limit ≡ 16
   pub operators : operator_limit ≡ 256
+  pub numbers : pos number_limit ≡ highest Longlong
+  pub longs : pos long_limit ≡ highest Long

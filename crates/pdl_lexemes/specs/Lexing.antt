@@ -19,6 +19,7 @@ use Rattle.pdl_lexemes.specs.declared.WordKind.TheVariants.{OfType, View, Pars, 
 use Rattle.pdl_lexemes.specs.declared.Lexeme.{Lexeme}
 use Rattle.pdl_lexemes.specs.declared.Lexeme.TheVariants.{Name, Keyword, Word, Number, Quoted, Open, Close, OpenSquare, CloseSquare, Comma, Equals, Arrow, FatArrow, Assign, Operator, Prefix, Unknown}
 use Rattle.pdl_lexemes.specs.Bytes.{bytes_at}
+use Rattle.pdl_lexemes.specs.Limits.{number_limit}
 
 -- the words that name no call
 abbrev pub keywords : List (List ℕ × Key)
@@ -60,9 +61,9 @@ signs =
     ∷ (codes ",", Comma) ∷ (codes "=", Equals) ∷ (codes "->", Arrow) ∷ (codes "=>", FatArrow)
     ∷ (codes "!", Prefix Not) ∷ (codes "~", Prefix Complement) ∷ (codes ":", Unknown) ∷ []
 
--- the value of decimal digits, or 2 ^ 63 where it is above 9223372036854775807
+-- the value of decimal digits, or one more than the greatest number where it is above that
 abbrev pub with_digit : ℕ → ℕ → ℕ
-with_digit n digit = min (10 * n + (digit - 48)) 9223372036854775808
+with_digit n digit = min (10 * n + (digit - 48)) (number_limit + 1)
 
 abbrev pub number_of : List ℕ → ℕ
 number_of digits = fold with_digit 0 digits

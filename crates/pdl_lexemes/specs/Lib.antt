@@ -1,3 +1,4 @@
+pub mod Limits
 pub mod ReadAnswers
 pub mod Bytes
 pub mod Lists

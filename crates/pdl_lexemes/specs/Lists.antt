@@ -4,12 +4,13 @@ use Rattle.std.specs.List.{list_any}
 use Rattle.pdl_elem.specs.declared.BinaryOp.TheVariants.{Sub}
 use Rattle.pdl_elem.specs.declared.Ty.{Ty}
 use Rattle.pdl_elem.specs.declared.Ty.TheVariants.{Long, Longlong}
+use Rattle.pdl_lexemes.specs.Limits.{number_limit, long_limit}
 use Rattle.pdl_lexemes.specs.declared.Lexeme.{Lexeme}
 use Rattle.pdl_lexemes.specs.declared.Lexeme.TheVariants.{Number, OpenSquare, CloseSquare, Comma, Operator}
 
--- the value of a number token, or nothing where it is above 9223372036854775807
+-- the value of a number token, or nothing where it is above the greatest number of a text
 abbrev pub signed : ℕ → Option ℤ
-signed n = if nat_le n 9223372036854775807 then Some (pos n) else None
+signed n = if nat_le n number_limit then Some (pos n) else None
 
 -- the dimensions that two members have, where both have the same
 abbrev pub shared : Option (List ℕ) → Option (List ℕ) → Option (List ℕ)
@@ -21,9 +22,9 @@ shared (Some a) (Some b) = if bytes_eq a b then Some a else None
 abbrev pub with_length : ℕ → Option (List ℕ) → Option (List ℕ)
 with_length n shape = option_map (λ d. d ++ (n ∷ [])) shape
 
--- a list's type: longlong where a number in it is above 2147483647, else long
+-- a list's type: longlong where the size of a number in it is above that of long, else long
 abbrev pub type_of : List ℤ → Ty
-type_of elems = if list_any (λ z. nat_lt 2147483647 (nat_abs z)) elems then Longlong else Long
+type_of elems = if list_any (λ z. nat_lt long_limit (nat_abs z)) elems then Longlong else Long
 
 -- what a part of a list literal is: its dimensions, which are none where it is ragged, and from the
 -- numbers before it to those with it

@@ -5,6 +5,7 @@ ghost use Rattle.pdl_lex.specs.Limits.{statement_limit};
 ghost use Rattle.pdl_lexemes.specs.Depth.{with_operator, counted_to, is_beyond, is_too_deep, is_large, has_large, is_arrow, has_arrow};
 
 use crate::Lexeme;
+use crate::limits::LARGEST_NUMBER;
 use pdl_lex::MOST_OPEN;
 
 /// At most so many square brackets are open at once.
@@ -105,12 +106,12 @@ fn is_large(lexeme: Lexeme) -> bool
     ensures { result ≡ is_large lexeme }
 {
     match lexeme {
-        Lexeme::Number(n) => n > 9223372036854775807,
+        Lexeme::Number(n) => n > LARGEST_NUMBER,
         _ => false,
     }
 }
 
-/// Whether a number is above 9223372036854775807.
+/// Whether a number is above `LARGEST_NUMBER`.
 pub fn has_large(tokens: &[Lexeme]) -> bool
     ensures { result ≡ has_large tokens.now }
 {

@@ -43,7 +43,9 @@ pub fn type_words_are_words()
     ensures { TypeWordsAreWords }
 {}
 
-/// At most 16 square brackets are open at once, and at most 256 operators stand outside them.
+/// At most 16 square brackets are open at once, and at most 256 operators stand outside them. The
+/// greatest number of a text is that of longlong, and the greatest size of a number in a list of long
+/// is the greatest number of long.
 pub fn limits_law()
     ensures { LimitsAre }
 {}

@@ -1,10 +1,12 @@
 //! Tokens as lexemes.
 
-ghost use Rattle.std.specs.Prelude.{◌≡◌, ◌≤◌, IfOk, OnOk};
+ghost use Rattle.std.specs.Prelude.{◌≡◌, ◌≤◌, ◌+◌, IfOk, OnOk};
 ghost use Rattle.pdl_elem.specs.Tables.{found_in};
 ghost use Rattle.pdl_lexemes.specs.Bytes.{bytes_at};
+ghost use Rattle.pdl_lexemes.specs.Limits.{number_limit};
 ghost use Rattle.pdl_lexemes.specs.Lexing.{keywords, operators, assignments, kind_of_word, word_of, sign_of, number_of, with_digit, lexeme_of, lexemes_of};
 
+use crate::limits::LARGEST_NUMBER;
 use crate::tables::{ASSIGNMENTS, KEYWORDS, OPERATORS, SIGNS, WORD_KINDS};
 use crate::{AssignOp, Keyword, Lexeme, Span, WordKind};
 use pdl_elem::{BinaryOp, found_in, type_named};
@@ -78,15 +80,15 @@ fn sign(text: &[u8]) -> Lexeme
 }
 
 fn with_digit(n: u64, digit: u8) -> u64
-    requires { n ≤ 9223372036854775808 }
+    requires { n ≤ number_limit + 1 }
     ensures value { result ≡ with_digit n digit }
-    ensures most { result ≤ 9223372036854775808 }
+    ensures most { result ≤ number_limit + 1 }
 {
     let value = n as u128 * 10 + digit.saturating_sub(48) as u128;
-    value.min(9223372036854775808) as u64
+    value.min(LARGEST_NUMBER as u128 + 1) as u64
 }
 
-/// The value of decimal digits, or 2 ^ 63 where it is above 9223372036854775807.
+/// The value of decimal digits, or one more than `LARGEST_NUMBER` where it is above that.
 pub fn number_of(digits: &[u8]) -> u64
     ensures { result ≡ number_of digits.now }
 {

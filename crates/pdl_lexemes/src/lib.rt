@@ -10,6 +10,7 @@ mod laws;
 mod left;
 mod levels;
 mod lexing;
+mod limits;
 pub mod list;
 mod peek;
 mod refusal;
@@ -26,6 +27,7 @@ pub use levels::level_of;
 pub use lexing::{
     assignment_named, bytes, keyword_named, lexemes, number_of, operator_named, read_lexemes,
 };
+pub use limits::{LARGEST_LONG, LARGEST_NUMBER};
 use pdl_elem::{BinaryOp, Ty, UnaryOp};
 pub use refusal::Refusal;
 
@@ -80,7 +82,7 @@ pub enum Lexeme {
     Name(Span),
     Keyword(Keyword),
     Word(WordKind, Span),
-    /// The number, or 2 ^ 63 where it is above 9223372036854775807.
+    /// The number, or one more than `LARGEST_NUMBER` where it is above that.
     Number(u64),
     /// A string without its quotes.
     Quoted(Span),
@@ -101,12 +103,12 @@ pub enum Lexeme {
     Unknown,
 }
 
-/// The number, where it is at most 9223372036854775807.
+/// The number, where it is at most `LARGEST_NUMBER`.
 pub fn signed(n: u64) -> Option<i64>
     ensures value { result ≡ signed n }
     ensures positive { IfSome result (λ z. pos 0 ≤ℤ z) }
 {
-    if n <= 9223372036854775807 {
+    if n <= LARGEST_NUMBER {
         Some(n as i64)
     } else {
         None

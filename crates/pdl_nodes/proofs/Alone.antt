@@ -3,6 +3,7 @@ use Rattle.std.proofs.Common.{◌≡◌, ◌≢◌, ℕ, ◌+◌, ◌<◌, ◌||
 use Rattle.std.proofs.Math.Path.{fun_ext}
 use Rattle.std.proofs.lemmas.Bool.{cases_Bool, or_right, ltb-true, lt-ltb, both_ways}
 use Rattle.std.proofs.lemmas.Bool.Decides.{eqb_tells}
+use Rattle.pdl_lemmas.specs.Numbers.{at_other, at_same}
 use Rattle.pdl_nodes.specs.declared.holds.Hold.{Hold}
 use Rattle.pdl_nodes.specs.Children.{children, left, one_of}
 use Rattle.pdl_nodes.specs.Families.{IsWaiting, InOrder}
@@ -22,7 +23,6 @@ use Rattle.pdl_nodes.proofs.Gone.{let_go_is}
 use Rattle.pdl_nodes.proofs.Leavings.{has_staying, still_parents}
 use Rattle.pdl_nodes.proofs.Lefts.{left_all, left_less, no_one, one_is, told}
 use Rattle.pdl_nodes.proofs.Letting.{fewer_then, letting_last, letting_none, loose_listed, marked_none}
-use Rattle.pdl_nodes.proofs.Lookups.{at_other, at_same}
 use Rattle.pdl_nodes.proofs.Paths.{parent_live}
 use Rattle.pdl_nodes.proofs.Reaches.{none_of, staying_live}
 use Rattle.pdl_nodes.proofs.Removing.{staying_all}

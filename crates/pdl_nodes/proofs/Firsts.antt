@@ -2,13 +2,13 @@
 use Rattle.std.proofs.Common.{◌≡◌, ℕ, ◌+◌, ◌<◌, ◌≤◌, true, false, cond, leb, List, [], ◌∷◌, map, Option, Some, None, inl, inr, refl, sym, ◌∙◌, ap, arith}
 use Rattle.std.proofs.lemmas.Bool.Decides.{eqb_tells, leb_tells}
 use Rattle.slab.specs.Slab.{Slab}
+use Rattle.pdl_lemmas.specs.Numbers.{at_other, at_same}
 use Rattle.pdl_registry.specs.Numbered.{AllAbove, Rises, first_from, value_at}
 use Rattle.pdl_nodes.specs.Row.{Row}
 use Rattle.pdl_nodes.specs.Rows.{each, from, or_newer, NumbersBelow, Rows, has, Falls}
 use Rattle.pdl_nodes.specs.Table.{rows_of, IsTable}
 use Rattle.pdl_nodes.proofs.Calls.{seen}
 use Rattle.pdl_nodes.proofs.Finds.{has_below, not_newest, below_more}
-use Rattle.pdl_nodes.proofs.Lookups.{at_other, at_same}
 use Rattle.pdl_nodes.proofs.Slots.{Shows}
 use Rattle.std.proofs.lemmas.Bool.{eq-eqb, ne_eqb}
 

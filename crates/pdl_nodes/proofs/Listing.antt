@@ -1,10 +1,11 @@
 -- Which views are listed as marked, through the table's calls.
-use Rattle.std.proofs.Common.{◌≡◌, ◌≢◌, ℕ, ℤ, ◌+◌, ◌<◌, ◌≤◌, Bool, true, false, eqb, cond, ◌&&◌, ◌||◌, not, List, [], ◌∷◌, length, drop, get_or, Option, Some, inl, inr, refl, sym, ◌∙◌, ap, ap₂, subst}
+use Rattle.std.proofs.Common.{◌≡◌, ◌≢◌, ℕ, ℤ, ◌+◌, ◌<◌, ◌≤◌, Bool, true, false, eqb, cond, ◌&&◌, ◌||◌, not, List, [], ◌∷◌, length, drop, get_or, Option, Some, inl, inr, refl, sym, ◌∙◌, ap, ap₂, subst, nat_eq}
 use Rattle.std.proofs.lemmas.Bool.{eqb-true}
 use Rattle.std.proofs.lemmas.Bool.Decides.{eqb_tells}
 use Rattle.std.proofs.lemmas.List.{drop_all, drop_more, get_or_default}
 use Rattle.std.proofs.lemmas.List.Sorted.{IsPermutation-swap_remove, list_any-IsPermutation}
-use Rattle.std.specs.List.{swap_remove}
+use Rattle.std.proofs.lemmas.Map.Views.{any-filter_same}
+use Rattle.std.specs.List.{filter, swap_remove}
 use Rattle.std.specs.Option.{IsSome}
 use Rattle.slab.specs.Slab.{Slab, get, with_value}
 use Rattle.slab.specs.Slab.{Updates as Changes}
@@ -205,6 +206,10 @@ pub marked_rows : (t : Rows) (m : Marked) (keys : List (ℕ × ℕ)) (nodes : Sl
 marked_rows t m keys nodes rt b key r q u s a i h g c =
     changed_one (marked_in b) (each (unmark_in (rt ∷ []) rt b) (each (unmark_in (listed m rt) rt b) t)) keys nodes b key r q u.rows u.table h g (c ∙ marked_here b r) (marked_others b)
     ∙ marked_alone t m rt b s a i
+
+-- what alone stays listed does
+pub kept_listed : (b : ℕ) (xs ys : List ℕ) → ys ≡ filter (λ v. nat_eq v b) xs → is_listed xs b ≡ true → is_listed ys b ≡ true
+kept_listed b xs ys e h = ap (λ vs. is_listed vs b) e ∙ any-filter_same (λ v. nat_eq v b) (λ v. nat_eq v b) true (λ k t. t) xs ∙ h
 
 -- the list after a base was marked alone
 pub listed_alone : (t : Rows) (m n : Marked) (rt b : ℕ) → AreListed t m → (row_at t b).root ≡ rt → has t b ≡ true → ((b ≡ rt → ⊥) → (row_at t b).mark ≡ true)

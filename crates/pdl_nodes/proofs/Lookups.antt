@@ -1,20 +1,8 @@
 -- Look-ups of numbers in lists that rise.
-use Rattle.std.proofs.Common.{◌≡◌, ℕ, ◌<◌, true, false, List, [], ◌∷◌, is_some, None, inl, inr, refl, sym, ap, arith}
-use Rattle.std.proofs.lemmas.Bool.Decides.{eqb_tells, leb_tells}
-use Rattle.std.specs.Cmp.{nat_cmp_is}
-use Rattle.std.specs.Ordering.{is_eq, nat_cmp}
-use Rattle.std.specs.declared.cmp.Ordering.TheVariants.{Less, Equal, Greater}
+use Rattle.std.proofs.Common.{◌≡◌, ℕ, ◌<◌, true, List, [], ◌∷◌, is_some, None, inl, inr, refl, arith}
+use Rattle.std.proofs.lemmas.Bool.Decides.{eqb_tells}
+use Rattle.pdl_lemmas.specs.Numbers.{at_other, at_same}
 use Rattle.pdl_registry.specs.Numbered.{AllAbove, IsAbove, value_at}
-
--- the test of a number
-pub at_same : (v k : ℕ) → k ≡ v → is_eq (nat_cmp v k) ≡ true
-at_same v k e = ap is_eq (sym (nat_cmp_is v k Equal (sym e)))
-
-pub at_other : (v k : ℕ) → (k ≡ v → ⊥) → is_eq (nat_cmp v k) ≡ false
-at_other v k n = elim (leb_tells v k) [
-  | inl t ↦ (let l : v < k = omega (arith, t.1, n) in ap is_eq (sym (nat_cmp_is v k Less l)))
-  | inr t ↦ ap is_eq (sym (nat_cmp_is v k Greater t.1))
-]
 
 module _ {V : Type 0} where
   -- a number below all has no value

@@ -39,7 +39,7 @@ use Rattle.pdl_nodes.proofs.Relays.{path_with}
 use Rattle.pdl_nodes.proofs.RenewLoop.{room_next, room_of}
 use Rattle.pdl_nodes.proofs.Seens.{has_older, is_seen, row_older, view_at}
 use Rattle.pdl_nodes.proofs.WorldLemmas.{look_with}
-use Rattle.pdl_nodes.proofs.Unmet.{IsBelow, IsPast, IsUnmet, first_known, is_past, none_below, of_parent, past_is, unmet, unmet_here, unmet_next}
+use Rattle.pdl_nodes.proofs.Unmet.{AreAbove, IsBelow, IsPast, IsUnmet, is_past, none_below, none_between, of_parent, past_is, start_known, unmet, unmet_here, unmet_next}
 use Rattle.pdl_nodes.proofs.Viewed.{allowed}
 
 -- the record of a row in the world
@@ -62,14 +62,6 @@ has_root f ((j, r) ∷ rs) k h e = elim (eqb_tells j k) [
   behind : (o : Origin) → Has (with_elements f (shape rs)) k (root (row_at rs k).ty (row_at rs k).triple.dims (f k)) → Has (with_elements f ((j, def_from r.ty r.triple.dims o) ∷ shape rs)) k (root (row_at rs k).ty (row_at rs k).triple.dims (f k))
   behind Root i = inr i
   behind (View q u x) i = inr i
-
-pub relaying_begins : BelowLaws → (rs : Rows) (v : ℕ) (ds : List ℕ) → IsSound (world_of rs) → IsStill rs → IsRelaying [] rs v ds (v + 1)
-relaying_begins laws rs v ds s i = record {
-  done = λ k p t y h l e b. (let low : v ≤ p = laws.not_older (world_of rs) v p s b in
-      let less : p < k = (parent_live rs k p i h (ap parent_from e)).1 in
-      absurd (omega (arith, low, less, l)));
-  only = λ k x e. cc;
-}
 
 -- there is no array between a bound and the next number
 pub relaying_next : (ls : Layouts) (rs : Rows) (v : ℕ) (ds : List ℕ) (bound k : ℕ) → IsRelaying ls rs v ds bound → ((u : ℕ) → has rs u ≡ true → bound ≤ u → k ≤ u) → IsRelaying ls rs v ds k
@@ -310,10 +302,22 @@ on_next laws ls rs v ds b n next s i h below l r e f = subst (λ (o : Option ℕ
 abbrev pub IsWalk : Layouts → Rows → (v : ℕ) → List ℕ → (next : Option ℕ) → (n : ℕ) → Type 0
 IsWalk ls rs v ds next n = IsOn ls rs v ds next × IsUnmet rs (reaches rs v) next n
 
-pub on_begins : BelowLaws → (rs : Rows) (v : ℕ) (ds : List ℕ) (n : ℕ) (next : Option ℕ) → IsSound (world_of rs) → IsStill rs → has rs v ≡ true → NumbersBelow 18446744073709551615 rs → n ≡ children rs v → next ≡ cond (eqb n 0) None (from rs (v + 1)) → IsWalk [] rs v ds next n
-on_begins laws rs v ds n next s i h below m e =
-    let count : n ≡ unmet rs (reaches rs v) (v + 1) = m ∙ sym (first_known rs (reaches rs v) v i h (reaches_below laws rs v s i h)) in
-    (on_next laws [] rs v ds (v + 1) n next s i h below (omega arith) (relaying_begins laws rs v ds s i) count e, unmet_next rs (reaches rs v) (v + 1) n next i count e)
+-- up to w nothing that is newer is laid anew
+relaying_starts : BelowLaws → (rs : Rows) (v w : ℕ) (ds : List ℕ) → IsSound (world_of rs) → IsStill rs → has rs v ≡ true → AreAbove rs v w → IsRelaying [] rs v ds (w + 1)
+relaying_starts laws rs v w ds s i h a = record {
+  done = λ k p t y g l e b. (let low : v ≤ p = laws.not_older (world_of rs) v p s b in
+      let less : p < k = (parent_live rs k p i g (ap parent_from e)).1 in
+      let below : IsBelow rs v (reaches rs v) = reaches_below laws rs v s i h in
+      let not : reaches rs v k ≡ false = none_between rs (reaches rs v) v w i below.older below.follows a k g (omega (arith, low, less)) (omega (arith, l)) in
+      let on : reaches rs v k ≡ reaches rs v p = laws.not_on (world_of rs) v k p t s (has_view (latest rs) rs k p t y g e) (λ q. absurd (omega (arith, q, low, less))) in
+      absurd (both_ways (reaches rs v k) not (on ∙ b)));
+  only = λ k x e. cc;
+}
+
+pub on_begins : BelowLaws → (rs : Rows) (v w : ℕ) (ds : List ℕ) (n : ℕ) (next : Option ℕ) → IsSound (world_of rs) → IsStill rs → has rs v ≡ true → NumbersBelow 18446744073709551615 rs → v ≤ w → AreAbove rs v w → n ≡ children rs v → next ≡ cond (eqb n 0) None (from rs (w + 1)) → IsWalk [] rs v ds next n
+on_begins laws rs v w ds n next s i h below l a m e =
+    let count : n ≡ unmet rs (reaches rs v) (w + 1) = m ∙ sym (start_known rs (reaches rs v) v w i h (reaches_below laws rs v s i h) l a) in
+    (on_next laws [] rs v ds (w + 1) n next s i h below (omega (arith, l)) (relaying_starts laws rs v w ds s i h a) count e, unmet_next rs (reaches rs v) (w + 1) n next i count e)
 
 -- the next array
 pub record IsNext (ls : Layouts) (rs : Rows) (v : ℕ) (ds : List ℕ) (k : ℕ) : Type 0 where

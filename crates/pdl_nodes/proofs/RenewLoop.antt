@@ -25,7 +25,7 @@ use Rattle.pdl_nodes.proofs.Paths.{parent_live}
 use Rattle.pdl_nodes.proofs.Marks.{each_live, each_each, each_id}
 use Rattle.pdl_nodes.proofs.RenewRows.{AllAfter, after, is_untouched, moved_root, renew_row}
 use Rattle.pdl_nodes.proofs.Seens.{is_seen, row_older, has_older, view_at}
-use Rattle.pdl_nodes.proofs.Unmet.{HasRoom, IsBelow, IsPast, IsUnmet, first_known, is_past, none_below, of_parent, past_is, past_room, unmet, unmet_here, unmet_next}
+use Rattle.pdl_nodes.proofs.Unmet.{AreAbove, HasRoom, IsBelow, IsPast, IsUnmet, is_past, none_below, none_between, of_parent, past_is, past_room, start_known, unmet, unmet_here, unmet_next}
 use Rattle.pdl_nodes.specs.Renewed.{AreLaid, CanDerive, CanRenew, Fits, Layouts, LaidAnew, is_of, laid_by, layout_at, renew, renewed, renewed_in, rooted_in, with_layout}
 
 -- the changes of one row
@@ -249,16 +249,6 @@ rooted_row ls t0 v ds es t u e h g same = ap (λ x. row_at x u) e ∙ each_at (r
   | inr y ↦ rw y.0 (sym (same y.1))
 ]
 
-renewing_newer : (ls : Layouts) (t0 : Rows) (v : ℕ) (ds : List ℕ) (es : List ℤ) (t : Rows) (next : Option ℕ) → IsStill t0 → has t0 v ≡ true → t ≡ each (rooted_in v ds es) t0 → next ≡ from t0 (v + 1) → IsRenewing ls t0 v ds es t next
-renewing_newer ls t0 v ds es t next s h e b = record {
-  bound = v + 1;
-  above = omega arith;
-  first = subst (λ (x : Option ℕ). IsFirst t0 (v + 1) x) (sym b) (is_first t0 (v + 1) (still_falls t0 s));
-  rows = same_each t0 t (rooted_in v ds es) s e;
-  done = λ u g l. rooted_row ls t0 v ds es t u e h g (λ n. renew_low ls t0 s v ds es u g (omega (arith, n)));
-  rest = λ u g l. ap (λ x. row_at x u) e ∙ each_at (rooted_in v ds es) t0 u g ∙ rw (ne_eqb u v (λ y. (let z : ⊥ = omega arith in z))) refl;
-}
-
 -- ---- what is below the new root
 -- the new root is its root then
 abbrev pub is_new : Layouts → Rows → ℕ → List ℕ → List ℤ → ℕ → Bool
@@ -347,13 +337,29 @@ renewing_next ls t0 v ds es t b n next k below l c e f = subst (λ (x : Option �
   | inr y ↦ rw y.0 c
 ])
 
-pub renewing_begins : (ls : Layouts) (t0 : Rows) (v : ℕ) (ds : List ℕ) (es : List ℤ) (t : Rows) (n : ℕ) (next : Option ℕ) → CanRenew ls t0 v ds es → NumbersBelow 18446744073709551615 t0 → t ≡ each (rooted_in v ds es) t0
-    → n ≡ children t0 v → next ≡ cond (eqb n 0) None (from t0 (v + 1)) → IsRenewing ls t0 v ds es t next × IsUnmet t0 (is_new ls t0 v ds es) next n
-renewing_begins ls t0 v ds es t n next k below e m f =
+-- up to w nothing that is newer than the new root is derived anew
+renewing_starts : (ls : Layouts) (t0 : Rows) (v w : ℕ) (ds : List ℕ) (es : List ℤ) (t : Rows) → CanRenew ls t0 v ds es → v ≤ w → ((u : ℕ) → has t0 u ≡ true → v < u → u ≤ w → is_new ls t0 v ds es u ≡ false) → t ≡ each (rooted_in v ds es) t0 → IsRenewing ls t0 v ds es t (from t0 (w + 1))
+renewing_starts ls t0 v w ds es t k l none e = record {
+  bound = w + 1;
+  above = omega (arith, l);
+  first = is_first t0 (w + 1) (still_falls t0 k.order.still);
+  rows = same_each t0 t (rooted_in v ds es) k.order.still e;
+  done = λ u g m. rooted_row ls t0 v ds es t u e k.live g (λ n. elim (cases_lt u v) [
+    | inl y ↦ renew_low ls t0 k.order.still v ds es u g y
+    | inr y ↦ (is_untouched v (row_at t0 v).root u (row_at t0 u) (row_at (renew ls t0 v ds es) u) (moved ls t0 v ds es k u g)
+        (λ q. both_ways (is_new ls t0 v ds es u) (none u g (omega (arith, y, n)) (omega (arith, m))) (eq-eqb (row_at (renew ls t0 v ds es) u).root v q))).row
+  ]);
+  rest = λ u g m. ap (λ x. row_at x u) e ∙ each_at (rooted_in v ds es) t0 u g ∙ rw (ne_eqb u v (λ y. (let z : ⊥ = omega (arith, l, m, y) in z))) refl;
+}
+
+pub renewing_begins : (ls : Layouts) (t0 : Rows) (v w : ℕ) (ds : List ℕ) (es : List ℤ) (t : Rows) (n : ℕ) (next : Option ℕ) → CanRenew ls t0 v ds es → NumbersBelow 18446744073709551615 t0 → v ≤ w → AreAbove t0 v w → t ≡ each (rooted_in v ds es) t0
+    → n ≡ children t0 v → next ≡ cond (eqb n 0) None (from t0 (w + 1)) → IsRenewing ls t0 v ds es t next × IsUnmet t0 (is_new ls t0 v ds es) next n
+renewing_begins ls t0 v w ds es t n next k below l a e m f =
     let s : IsStill t0 = k.order.still in
-    let count : n ≡ unmet t0 (is_new ls t0 v ds es) (v + 1) = m ∙ sym (first_known t0 (is_new ls t0 v ds es) v s k.live (new_below ls t0 v ds es k)) in (
-      renewing_next ls t0 v ds es t (v + 1) n next k below (omega arith) (renewing_newer ls t0 v ds es t (from t0 (v + 1)) s k.live e refl) count f,
-      unmet_next t0 (is_new ls t0 v ds es) (v + 1) n next s count f,
+    let i : IsBelow t0 v (is_new ls t0 v ds es) = new_below ls t0 v ds es k in
+    let count : n ≡ unmet t0 (is_new ls t0 v ds es) (w + 1) = m ∙ sym (start_known t0 (is_new ls t0 v ds es) v w s k.live i l a) in (
+      renewing_next ls t0 v ds es t (w + 1) n next k below (omega (arith, l)) (renewing_starts ls t0 v w ds es t k l (λ u h x y. none_between t0 (is_new ls t0 v ds es) v w s i.older i.follows a u h x y) e) count f,
+      unmet_next t0 (is_new ls t0 v ds es) (w + 1) n next s count f,
     )
 
 -- the arrays from the new root on have as many views as before

@@ -2,12 +2,13 @@
 use Rattle.std.proofs.Common.{◌≡◌, ℕ, Bool, true, false, List, [], ◌∷◌, Option, Some, None, inl, inr, refl, sym, ◌∙◌, ap, subst, arith, ◌+◌, length}
 use Rattle.std.proofs.lemmas.Bool.Decides.{eqb_tells}
 use Rattle.slab.specs.Slab.{Slab}
+use Rattle.pdl_lemmas.specs.Numbers.{at_other, at_same}
 use Rattle.pdl_registry.specs.Numbered.{AllAbove, Rises, value_at}
 use Rattle.pdl_nodes.specs.Row.{Row}
 use Rattle.pdl_nodes.specs.Rows.{Rows, row_at, has, NumbersBelow, Falls}
 use Rattle.pdl_nodes.specs.Table.{node_at, rows_onto, rows_of}
 use Rattle.pdl_nodes.proofs.Finds.{below_more, rows_same}
-use Rattle.pdl_nodes.proofs.Lookups.{at_other, at_same, none_below}
+use Rattle.pdl_nodes.proofs.Lookups.{none_below}
 
 -- what the rows have of a number
 record Finds (rs : Rows) (v : ℕ) (r : Row) (b : Bool) : Type 0 where

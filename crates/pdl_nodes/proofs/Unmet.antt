@@ -1,6 +1,6 @@
 -- How many views are known and not met, where the arrays below one are met the oldest first.
 use Rattle.std.proofs.Common.{◌≡◌, ℕ, ◌+◌, ◌-◌, ◌<◌, ◌≤◌, Bool, true, false, eqb, leb, cond, [], ◌∷◌, Option, Some, None, inl, inr, refl, sym, ◌∙◌, ap, subst, arith}
-use Rattle.std.proofs.lemmas.Bool.{cases_Bool, eq-eqb}
+use Rattle.std.proofs.lemmas.Bool.{cases_Bool, cases_eq, cases_lt, eq-eqb}
 use Rattle.std.proofs.lemmas.Bool.Decides.{eqb_tells, leb_tells}
 use Rattle.pdl_nodes.specs.Children.{children, one_of}
 use Rattle.pdl_nodes.specs.Row.{Row, parent_of}
@@ -296,6 +296,88 @@ none_newer ((k, r) ∷ rs) t v b s l f z u h m =
 
 pub none_below : (rs : Rows) (t : ℕ → Bool) (v b : ℕ) → IsStill rs → v < b → IsBelow rs v t → unmet rs t b ≡ 0 → (u : ℕ) → has rs u ≡ true → b ≤ u → t u ≡ false
 none_below rs t v b s l i z = none_newer rs t v b s l i.follows z
+
+-- ---- the start
+-- the views of v are above w
+abbrev pub AreAbove : Rows → (v w : ℕ) → Type 0
+AreAbove rs v w = (u : ℕ) → has rs u ≡ true → parent_of (row_at rs u) ≡ Some v → v < u → w < u
+
+-- up to there nothing newer is below
+pub none_between : (rs : Rows) (t : ℕ → Bool) (v w : ℕ) → IsStill rs → ((p : ℕ) → has rs p ≡ true → p < v → t p ≡ false) → ((u : ℕ) → has rs u ≡ true → (u ≡ v → ⊥) → t u ≡ of_parent t (parent_of (row_at rs u))) → AreAbove rs v w
+    → (u : ℕ) → has rs u ≡ true → v < u → u ≤ w → t u ≡ false
+none_between [] t v w s o f a u h l m = (let z : false ≡ true = h in absurd (cc))
+none_between ((k, r) ∷ rs) t v w s o f a u h l m =
+    let old : (x : ℕ) → has rs x ≡ true → v < x → x ≤ w → t x ≡ false =
+    none_between rs t v w s.2 (λ p q. o p (older_has k r rs p q)) (follows_older k r rs v t s f)
+    (λ x q e n. a x (older_has k r rs x q) (ap (λ (y : Row). parent_of y) (row_older k r rs x (not_newest rs k x s.0 q)) ∙ e) n) in
+    elim (eqb_tells k u) [
+      | inl y ↦ (let row : row_at ((k, r) ∷ rs) k ≡ r = rw (eq-eqb k k refl) refl in
+          let own : t k ≡ of_parent t (parent_of r) = f k (head_has k r rs) (λ e. absurd (omega (arith, l, y.1, e))) ∙ ap (λ (x : Row). of_parent t (parent_of x)) row in
+          ap t (sym y.1) ∙ own ∙ newest (parent_of r) refl row (omega (arith, l, y.1)) (omega (arith, m, y.1)) old)
+      | inr y ↦ old u (rw y.0 at h) l m
+    ]
+  where
+    newest : (q : Option ℕ) → parent_of r ≡ q → row_at ((k, r) ∷ rs) k ≡ r → v < k → k ≤ w → ((x : ℕ) → has rs x ≡ true → v < x → x ≤ w → t x ≡ false) → of_parent t q ≡ false
+    newest None e row l m old = refl
+    newest (Some p) e row l m old =
+        let up : (has rs p ≡ true) × (p < k) = head_above k r rs p s e in
+        elim (cases_lt p v) [
+          | inl x ↦ o p (older_has k r rs p up.0) x
+          | inr x ↦ elim (cases_eq p v) [
+            | inl same ↦ (let high : w < k = a k (head_has k r rs) (ap (λ (y : Row). parent_of y) row ∙ e ∙ ap Some same) l in absurd (omega (arith, high, m)))
+            | inr ne ↦ old p up.0 (omega (arith, x, ne)) (omega (arith, up.1, m))
+          ]
+        ]
+
+same_passed : (t : ℕ → Bool) (b c k : ℕ) (o : Option ℕ) → b ≤ c → (k < c → b ≤ k → of_parent t o ≡ false) → ((p : ℕ) → o ≡ Some p → b ≤ p → p < c → t p ≡ false) → waits t b k o ≡ waits t c k o
+same_passed t b c k o l f g = elim (leb_tells b k) [
+  | inl x ↦ elim (leb_tells c k) [
+    | inl y ↦ rw (x.0, y.0) (ap one_if (by o g))
+    | inr y ↦ rw (x.0, y.0) (ap one_if (within o (f (omega (arith, y.1)) x.1)))
+  ]
+  | inr x ↦ elim (leb_tells c k) [
+    | inl y ↦ absurd (omega (arith, l, x.1, y.1))
+    | inr y ↦ rw (x.0, y.0) refl
+  ]
+] where
+  by : (o : Option ℕ) → ((p : ℕ) → o ≡ Some p → b ≤ p → p < c → t p ≡ false) → of_met t b o ≡ of_met t c o
+  by None g = refl
+  by (Some p) g = elim (leb_tells b p) [
+    | inl x ↦ elim (leb_tells c p) [
+      | inl y ↦ rw (x.0, y.0) refl
+      | inr y ↦ (let none : t p ≡ false = g p refl x.1 (omega (arith, y.1)) in rw (x.0, y.0) (sym none))
+    ]
+    | inr x ↦ elim (leb_tells c p) [
+      | inl y ↦ absurd (omega (arith, l, x.1, y.1))
+      | inr y ↦ rw (x.0, y.0) refl
+    ]
+  ]
+
+  within : (o : Option ℕ) → of_parent t o ≡ false → of_met t b o ≡ false
+  within None e = refl
+  within (Some p) e = elim (leb_tells b p) [ inl x ↦ rw x.0 refl | inr x ↦ rw x.0 e ]
+
+-- past arrays that aren't below the count is the same
+passed_unmet : (rs : Rows) (t : ℕ → Bool) (b c : ℕ) → IsStill rs → b ≤ c → ((u : ℕ) → has rs u ≡ true → b ≤ u → t u ≡ of_parent t (parent_of (row_at rs u))) → ((u : ℕ) → has rs u ≡ true → b ≤ u → u < c → t u ≡ false) → unmet rs t b ≡ unmet rs t c
+passed_unmet [] t b c s l f g = refl
+passed_unmet ((k, r) ∷ rs) t b c s l f g =
+    let row : row_at ((k, r) ∷ rs) k ≡ r = rw (eq-eqb k k refl) refl in
+    let head : waits t b k (parent_of r) ≡ waits t c k (parent_of r) =
+    same_passed t b c k (parent_of r) l
+    (λ x y. sym (f k (head_has k r rs) y ∙ ap (λ (z : Row). of_parent t (parent_of z)) row) ∙ g k (head_has k r rs) y x)
+    (λ p e y x. g p (older_has k r rs p (head_above k r rs p s e).0) y x) in
+    let rest : unmet rs t b ≡ unmet rs t c =
+    passed_unmet rs t b c s.2 l
+    (λ u h y. f u (older_has k r rs u h) y ∙ ap (λ (z : Row). of_parent t (parent_of z)) (row_older k r rs u (not_newest rs k u s.0 h)))
+    (λ u h y x. g u (older_has k r rs u h) y x) in
+    omega (arith, head, rest)
+
+-- there its views are known
+pub start_known : (rs : Rows) (t : ℕ → Bool) (v w : ℕ) → IsStill rs → has rs v ≡ true → IsBelow rs v t → v ≤ w → AreAbove rs v w → unmet rs t (w + 1) ≡ children rs v
+start_known rs t v w s h i l a =
+    sym (passed_unmet rs t (v + 1) (w + 1) s (omega (arith, l)) (λ u g m. i.follows u g (λ e. absurd (omega (arith, m, e))))
+    (λ u g m n. none_between rs t v w s i.older i.follows a u g (omega (arith, m)) (omega (arith, n))))
+    ∙ first_known rs t v s h i
 
 -- the count stands at the next array
 abbrev pub IsUnmet : Rows → (ℕ → Bool) → (next : Option ℕ) → ℕ → Type 0

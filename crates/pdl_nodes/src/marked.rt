@@ -1,5 +1,6 @@
 //! The views of each root that may be marked.
-ghost use Rattle.std.specs.Prelude.{◌≡◌, ◌≢◌, ℕ, true, ◌∷◌, [], OnOk};
+ghost use Rattle.std.specs.Prelude.{◌≡◌, ◌≢◌, ◌==◌, ℕ, true, ◌∷◌, [], OnOk};
+ghost use Rattle.std.specs.List.{filter};
 ghost use Rattle.pdl_world.specs.Swept.{is_listed};
 ghost use Rattle.pdl_nodes.specs.Changes.{unmark_in};
 ghost use Rattle.pdl_nodes.specs.Marked.{listed, listed_in};
@@ -52,8 +53,7 @@ impl Marked {
 
     /// Of a root's views this one alone stays listed, if it is.
     pub fn keep(&mut self, root: u64, id: u64)
-        ensures kept { is_listed (listed self.old root) id ≡ true
-            → is_listed (listed self.new root) id ≡ true }
+        ensures kept { listed self.new root ≡ filter (λ v. v == id) (listed self.old root) }
         ensures others { (r : ℕ) → r ≢ root → listed self.new r ≡ listed self.old r }
     {
         match self.by_root.get_mut(&root) {
@@ -64,6 +64,15 @@ impl Marked {
             }
             None => {}
         }
+    }
+
+    /// Of a root no view stays listed: what is listed would be listed once more when it is marked
+    /// again.
+    pub fn unlist(&mut self, root: u64)
+        ensures unlisted { listed self.new root ≡ filter (λ v. v == root) (listed self.old root) }
+        ensures others { (r : ℕ) → r ≢ root → listed self.new r ≡ listed self.old r }
+    {
+        self.keep(root, root)
     }
 
     /// Forgets a number of the family of a root, be it the root or a view. It goes over no list.
@@ -149,7 +158,7 @@ fn take_out(views: &mut Vec<u64>, places: &mut BTreeMap<u64, usize>, id: u64, pl
 
 /// Leaves this number alone in a list, if it is there.
 fn keep_one(views: &mut Vec<u64>, id: u64)
-    ensures { is_listed views.old.items id ≡ true → is_listed views.new.items id ≡ true }
+    ensures { views.new.items ≡ filter (λ v. v == id) views.old.items }
 {
     views.retain(|view| *view == id);
 }

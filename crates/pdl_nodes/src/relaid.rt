@@ -129,7 +129,7 @@ fn new_dims<'a>(layouts: &'a Relaid, id: u64, dims: &'a Dims, parent: u64) -> Op
 impl Table {
     /// The layouts, for these dimensions of an array, of all views that reach it by parents. They
     /// are made the oldest first, so that each finds the new dimensions of its parent. `Breaks`
-    /// comes exactly where the formula of one of them refuses these.
+    /// comes only where the formula of such a view refuses, and there it never succeeds.
     pub fn relaid(&self, alloc: Global, id: u64, dims: &Dims) -> Result<Relaid, RelayFault>
         requires still { IsStill self.now }
         requires sound { IsSound (world_of self.now) }
@@ -144,7 +144,8 @@ impl Table {
         let root = self.node(id).root();
         let mut layouts = Relaid::new(alloc);
         let mut unmet = self.children(id);
-        let mut next = self.next_below(unmet, id);
+        let start = self.before_views(id);
+        let mut next = self.next_below(unmet, start);
         while let Some(newer) = next {
             let is_below = self.relay_in(alloc, root, id, dims, &mut layouts, newer)?;
             unmet = self.unmet_past(unmet, newer, is_below);

@@ -1,10 +1,10 @@
 //! Nodes by their numbers: a slab, and the key of each number.
-ghost use Rattle.std.specs.Prelude.{◌≡◌, ◌≢◌, ℕ, ◌+◌, ◌-◌, ◌<◌, ◌^◌, ◌==◌, ◌∷◌, if◌then◌else◌, [], true, false, length, is_none, Some, None, IfSome, OnOk, OnErr};
+ghost use Rattle.std.specs.Prelude.{◌≡◌, ◌≢◌, ℕ, ◌+◌, ◌-◌, ◌<◌, ◌≤◌, ◌^◌, ◌==◌, ◌∷◌, if◌then◌else◌, [], true, false, length, is_none, Some, None, IfSome, OnOk, OnErr};
 ghost use Rattle.std.specs.Option.{IsSome};
 ghost use Rattle.slab.specs.Slab.{HasRoomFor};
 ghost use Rattle.pdl_shape.specs.Shape.{size_of};
 ghost use Rattle.pdl_world.specs.Cut.{has_views};
-ghost use Rattle.pdl_nodes.specs.Children.{children, noted, one_of};
+ghost use Rattle.pdl_nodes.specs.Children.{children, noted, oldest, one_of};
 ghost use Rattle.pdl_nodes.specs.Marked.{AreListed};
 ghost use Rattle.pdl_registry.specs.Numbered.{IsAbove, IsPut, Rises, value_at};
 ghost use Rattle.pdl_nodes.specs.Table.{IsTable, rows_of};
@@ -71,10 +71,13 @@ fn put_key(
     ensures updates { OnOk result (IsPut keys.old keys.new id (Some key)) }
     ensures counted { OnOk result
         ((v : ℕ) → noted children.new v ≡ one_of parent v + noted children.old v) }
+    ensures least { OnOk result ((v : ℕ) → parent ≡ Some v → oldest children.new v ≤ id) }
+    ensures older { (v : ℕ) → 0 < noted children.old v
+        → oldest children.new v ≤ oldest children.old v }
     ensures kept { OnErr result (keys.new ≡ keys.old) }
     ensures same { OnErr result ((v : ℕ) → noted children.new v ≡ noted children.old v) }
 {
-    children.add(parent)?;
+    children.add(parent, id)?;
     match keys.insert(id, key) {
         Ok(()) => Ok(()),
         Err(refused) => {
@@ -101,6 +104,9 @@ fn make_room(
     ensures counted { OnOk result
         ((v : ℕ) → noted children.new v ≡ one_of parent v + noted children.old v) }
     ensures rest { nodes.new ≡ record nodes.old { capacity = nodes.new.capacity } }
+    ensures least { OnOk result ((v : ℕ) → parent ≡ Some v → oldest children.new v ≤ id) }
+    ensures older { (v : ℕ) → 0 < noted children.old v
+        → oldest children.new v ≤ oldest children.old v }
     ensures kept { OnErr result (keys.new ≡ keys.old) }
     ensures same { OnErr result ((v : ℕ) → noted children.new v ≡ noted children.old v) }
 {
@@ -337,6 +343,17 @@ impl Table {
         self.children.of(id)
     }
 
+    /// A number from an array's own on that all its views are above.
+    pub(crate) fn before_views(&self, id: u64) -> u64
+        ensures from { id ≤ result }
+        ensures small { id < 2 ^ 64 - 1 → result < 2 ^ 64 - 1 }
+        ensures views { (u : ℕ) → has self.now u ≡ true → parent_of (row_at self.now u) ≡ Some id
+            → id < u → result < u }
+    {
+        let oldest = self.children.oldest(id);
+        if id < oldest { oldest - 1 } else { id }
+    }
+
     /// How many nodes there are.
     pub fn count(&self) -> usize
         ensures { result ≡ length self.now }
@@ -481,7 +498,8 @@ impl Table {
         window_laws();
         let root = self.node(id).root();
         let mut unmet = self.children(id);
-        let mut next = self.next_below(unmet, id);
+        let start = self.before_views(id);
+        let mut next = self.next_below(unmet, start);
         self.become_root(alloc, id, dims, kept);
         let mut layouts = layouts;
         while let Some(newer) = next {
@@ -492,13 +510,12 @@ impl Table {
         self.unlist(id);
     }
 
-    /// Lists no view of a root of whose family none is marked: what is listed of it would be listed
-    /// once more when it is marked again.
+    /// Lists no view of a root of whose family none is marked.
     fn unlist(&mut self, id: u64)
         requires { (u : ℕ) → has self.old u ≡ true → (row_at self.old u).root ≡ id
             → u ≢ id → (row_at self.old u).mark ≡ false }
         ensures { self.new ≡ self.old }
     {
-        self.marked.keep(id, id);
+        self.marked.unlist(id);
     }
 }

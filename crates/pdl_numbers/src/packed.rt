@@ -1,18 +1,20 @@
 //! Lists of numbers of one type, each kept as the bytes of its type.
-ghost use Rattle.std.specs.Prelude.{◌≡◌, ◌<◌, ◌≤◌, ◌+◌, ◌^◌, ℤ, List, [], ◌++◌, pos, length, take, drop, map, get_or, slice_set, All, IfOk, OnOk, OnErr};
+ghost use Rattle.std.specs.Prelude.{◌≡◌, ◌<◌, ◌≤◌, ◌+◌, ◌^◌, ◌+ℤ◌, ◌*ℤ◌, ℕ, ℤ, List, [], ◌++◌, pos, length, take, drop, map, get_or, slice_set, All, IfOk, OnOk, OnErr};
 ghost use Rattle.std.specs.List.{flat_map, range_with_len};
 ghost use Rattle.std.proofs.Common.{rules};
 ghost use Rattle.pdl_elem.specs.declared.Ty.{Ty};
 ghost use Rattle.pdl_elem.specs.declared.Ty.TheVariants.{Sbyte, Byte, Short, Ushort, Long, Ulong, Longlong};
 ghost use Rattle.pdl_elem.specs.Types.{InRange};
 ghost use Rattle.pdl_shape.specs.Places.{AllBelow, IsBelow, element_at, put, read, write};
-ghost use Rattle.pdl_shape.specs.Shape.{size_of};
+ghost use Rattle.pdl_shape.specs.Shape.{extent_limit, size_of};
 ghost use Rattle.pdl_shape.specs.Triple.{Reaches};
+ghost use Rattle.pdl_numbers.specs.Reads.{IsInside};
 ghost use Rattle.pdl_numbers.specs.Typed.{count_moved};
+ghost use Rattle.pdl_numbers.specs.Writes.{stepped};
 ghost use Rattle.pdl_numbers.specs.Shown.{shown_through};
 ghost use Rattle.pdl_numbers.specs.Bytes.{ArePacked, bytes_of, number_of};
 
-use crate::placement::Placement;
+use crate::placement::{Placement, place_after};
 use crate::routes::Route;
 use pdl_elem::{Ty, wrap, wrapping_laws};
 use pdl_shape::shape_laws;
@@ -186,6 +188,29 @@ fn pack_all<T: PackedType<N>, const N: usize>(numbers: &[i64], cells: &mut [[u8;
     }
 }
 
+/// Sets the cells at the places from one on, each so far after the one before, to the bytes of the
+/// numbers, in order.
+fn pack_along<T: PackedType<N>, const N: usize>(
+    numbers: &[i64],
+    place: u32,
+    inc: i32,
+    cells: &mut [[u8; N]],
+)
+    requires small { length numbers.now ≤ extent_limit }
+    requires inside { (j : ℕ) → j < length numbers.now →
+        IsInside (length cells.old) (pos place +ℤ inc *ℤ pos j) }
+    requires in_range { All (InRange T.ty) numbers.now }
+    requires packed { ArePacked T.ty cells.old }
+    ensures packed { ArePacked T.ty cells.new }
+    ensures value { map (number_of T.ty) cells.new
+        ≡ write (stepped place inc (length numbers.now)) numbers.now
+        (map (number_of T.ty) cells.old) }
+{
+    for (j, number) in numbers.iter().enumerate() {
+        cells[place_after(place, inc, j)] = T::pack(*number);
+    }
+}
+
 /// Sets each number to the one whose bytes stand in the cell for it.
 fn unpack_all<T: PackedType<N>, const N: usize>(cells: &[[u8; N]], numbers: &mut [i64])
     requires { length numbers.old ≡ length cells.now }
@@ -255,6 +280,19 @@ impl<T: PackedType<N>, const N: usize> Packed<T, N> {
         let _count = self.len();
         let end = start + numbers.len();
         pack_all::<T, N>(numbers, &mut self.cells[start..end]);
+    }
+
+    /// Sets the numbers at the places from one on, each so far after the one before, all of which
+    /// are among these, to numbers in the type's range, in order.
+    pub(crate) fn write_along(&mut self, place: u32, inc: i32, numbers: &[i64])
+        requires small { length numbers.now ≤ extent_limit }
+        requires inside { (j : ℕ) → j < length numbers.now →
+            IsInside (length self.old) (pos place +ℤ inc *ℤ pos j) }
+        requires in_range { All (InRange T.ty) numbers.now }
+        ensures { self.new
+            ≡ write (stepped place inc (length numbers.now)) numbers.now self.old }
+    {
+        pack_along::<T, N>(numbers, place, inc, self.cells.as_mut_slice());
     }
 
     /// How many of the numbers aren't 0.

@@ -1,7 +1,7 @@
 //! Where the elements of a window lie in its buffer.
-ghost use Rattle.std.specs.Prelude.{◌≡◌, ◌<◌, ◌%◌, ◌/◌, ◌+ℤ◌, ℤ, IsTrue, pos, length};
-ghost use Rattle.pdl_shape.specs.Shape.{IsDims, coordinates_of, size_of};
-ghost use Rattle.pdl_shape.specs.Triple.{IsTriple, moved};
+ghost use Rattle.std.specs.Prelude.{◌≡◌, ◌<◌, ◌%◌, ◌/◌, ◌+ℤ◌, ◌*ℤ◌, ℕ, ℤ, IsTrue, pos, length, unsigned_abs};
+ghost use Rattle.pdl_shape.specs.Shape.{IsDims, coordinates_of, extent_limit, size_of};
+ghost use Rattle.pdl_shape.specs.Triple.{IsPlace, IsTriple, moved};
 ghost use Rattle.pdl_numbers.specs.Shown.{IsInOrder, place_at};
 
 use pdl_shape::{Triple, copy_triple, dims_list, incs_list, shape_laws};
@@ -40,6 +40,14 @@ impl Placement {
         }
     }
 
+    /// Whether the place of each position is the position itself.
+    pub fn is_identity(&self) -> bool
+        ensures { IsTrue result → (p : ℕ) → p < size_of self.now.dims → place_at self.now p ≡ p }
+    {
+        shape_laws();
+        self.is_in_order && self.triple.offset == 0
+    }
+
     /// The triple.
     pub fn triple(&self) -> &Triple
         ensures { result.now ≡ self.now }
@@ -60,6 +68,17 @@ impl Placement {
             place_of(&self.triple, position)
         }
     }
+}
+
+/// The place so many steps after another.
+pub(crate) fn place_after(place: u32, inc: i32, steps: usize) -> usize
+    requires steps { steps < extent_limit }
+    requires place { IsPlace (pos place +ℤ inc *ℤ pos steps) }
+    ensures { result ≡ unsigned_abs (pos place +ℤ inc *ℤ pos steps) }
+{
+    let moved = i64::from(inc) * steps as i64;
+    let at = i64::from(place) + moved;
+    at as usize
 }
 
 /// The coordinate along a dimension of this size. Below the size it takes no division.

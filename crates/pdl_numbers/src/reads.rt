@@ -7,19 +7,8 @@ ghost use Rattle.pdl_numbers.specs.Reads.{IsInside, HasRead, HasStepped};
 ghost use Rattle.pdl_numbers.specs.Shown.{IsInOrder, place_at};
 
 use crate::packed::{Packed, PackedType};
-use crate::placement::{Placement, place_in_order, place_of};
+use crate::placement::{Placement, place_after, place_in_order, place_of};
 use pdl_shape::{Triple, dims_list, incs_list, shape_laws};
-
-/// The place so many steps after another.
-pub(crate) fn place_after(place: u32, inc: i32, steps: usize) -> usize
-    requires steps { steps < extent_limit }
-    requires place { IsPlace (pos place +ℤ inc *ℤ pos steps) }
-    ensures { result ≡ unsigned_abs (pos place +ℤ inc *ℤ pos steps) }
-{
-    let moved = i64::from(inc) * steps as i64;
-    let at = i64::from(place) + moved;
-    at as usize
-}
 
 /// The numbers from a place on, each so far after the one before.
 fn read_steps<T: PackedType<N>, const N: usize>(
@@ -48,8 +37,8 @@ fn repeat_number(number: i64, into: &mut [i64])
     }
 }
 
-/// The numbers from a place on, each so far after the one before: one number again and again where
-/// that is nowhere.
+/// The numbers from a place on, each so far after the one before: neighbours at once, and one number
+/// again and again where that is nowhere.
 pub(crate) fn read_run<T: PackedType<N>, const N: usize>(
     numbers: &Packed<T, N>,
     place: u32,
@@ -61,7 +50,9 @@ pub(crate) fn read_run<T: PackedType<N>, const N: usize>(
         IsInside (length numbers.now) (pos place +ℤ inc *ℤ pos j) }
     ensures { HasStepped numbers.now place inc (length into.old) into.new }
 {
-    if inc != 0 {
+    if inc == 1 && 0 < into.len() {
+        numbers.read_from(place as usize, into);
+    } else if inc != 0 {
         read_steps(numbers, place, inc, into);
     } else if 0 < into.len() {
         repeat_number(numbers.get(place as usize), into);

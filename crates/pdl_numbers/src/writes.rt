@@ -1,15 +1,16 @@
 //! Writing values through a triple into packed numbers, run by run.
-ghost use Rattle.std.specs.Prelude.{◌≡◌, ◌<◌, ◌≤◌, ◌+◌, ◌%◌, ◌+ℤ◌, ◌*ℤ◌, ℕ, pos, length, get_or, All};
+ghost use Rattle.std.specs.Prelude.{◌≡◌, ◌<◌, ◌≤◌, ◌+◌, ◌%◌, ◌+ℤ◌, ◌*ℤ◌, ℕ, IsTrue, pos, length, get_or, All};
 ghost use Rattle.pdl_elem.specs.Types.{InRange};
 ghost use Rattle.pdl_shape.specs.Places.{write};
 ghost use Rattle.pdl_shape.specs.Shape.{extent_limit, size_of};
 ghost use Rattle.pdl_shape.specs.Triple.{IsPlace};
+ghost use Rattle.pdl_numbers.specs.Reads.{IsInside};
 ghost use Rattle.pdl_numbers.specs.Shown.{IsInOrder};
 ghost use Rattle.pdl_numbers.specs.Writes.{onward, placed_from, stepped};
 
 use crate::packed::{Packed, PackedType};
-use crate::placement::{Placement, place_in_order, place_of};
-use crate::reads::{inc_along, place_after, run_length, size_along};
+use crate::placement::{Placement, place_after, place_in_order, place_of};
+use crate::reads::{inc_along, run_length, size_along};
 use pdl_shape::{Triple, shape_laws};
 
 /// Puts values at the places from one on, each so far after the one before, one by one.
@@ -30,8 +31,19 @@ fn write_steps<T: PackedType<N>, const N: usize>(
     }
 }
 
+/// Whether a run of so many places from one on, each so far after the one before, ends below
+/// `count` at both ends.
+fn lies_below(count: usize, place: u32, inc: i32, steps: usize) -> bool
+    requires small { steps ≤ extent_limit }
+    requires places { (j : ℕ) → j < steps → IsPlace (pos place +ℤ inc *ℤ pos j) }
+    ensures { IsTrue result → (j : ℕ) → j < steps → IsInside count (pos place +ℤ inc *ℤ pos j) }
+{
+    0 < steps && (place as usize) < count && place_after(place, inc, steps - 1) < count
+}
+
 /// Puts values at the places from one on, each so far after the one before. A value whose place
-/// lies past the end is dropped. Neighbours are packed at once.
+/// lies past the end is dropped. Neighbours are packed at once, and a run that lies among the
+/// numbers with no test of each place.
 fn write_run<T: PackedType<N>, const N: usize>(
     numbers: &mut Packed<T, N>,
     place: u32,
@@ -47,6 +59,8 @@ fn write_run<T: PackedType<N>, const N: usize>(
     let start = place as usize;
     if inc == 1 && start + values.len() <= numbers.len() {
         numbers.write_from(start, values);
+    } else if lies_below(numbers.len(), place, inc, values.len()) {
+        numbers.write_along(place, inc, values);
     } else {
         write_steps(numbers, place, inc, values);
     }

@@ -6,6 +6,7 @@ ghost use Rattle.pdl_elem.specs.Numbers.{wrapped};
 ghost use Rattle.pdl_elem.specs.Operators.{value_of};
 ghost use Rattle.pdl_elem.specs.Types.{InRange, binary_result};
 ghost use Rattle.pdl_shape.specs.Shape.{size_of};
+ghost use Rattle.pdl_ops.specs.declared.operands.TheConstants.{BLOCK};
 ghost use Rattle.pdl_ops.specs.Answers.{Answers};
 ghost use Rattle.pdl_ops.specs.Elementwise.{operands_from, values_of};
 
@@ -90,7 +91,7 @@ fn values_within(
 ) -> Result<Packing, OpFault>
     requires paired { length a.now.elems ≡ length b.now.elems }
     requires empty { made ≡ record { ty = binary_result op ty ty; elems = [] } }
-    requires room { 3 * min (size_of b.now.dims) 512 ≤ length room.old }
+    requires room { 3 * min (size_of b.now.dims) BLOCK ≤ length room.old }
     ensures value { let xs = map (wrapped ty) a.now.elems in
         let ys = map (wrapped ty) b.now.elems in
         Answers (λ made. made.elems) (values_of op ty xs ys) result }

@@ -7,6 +7,7 @@ ghost use Rattle.pdl_elem.specs.Types.{InRange};
 ghost use Rattle.pdl_elem.specs.declared.BinaryOp.TheVariants.{Div};
 ghost use Rattle.pdl_shape.specs.Broadcast.{BroadcastsTo};
 ghost use Rattle.pdl_shape.specs.Shape.{size_of};
+ghost use Rattle.pdl_ops.specs.declared.operands.TheConstants.{BLOCK};
 ghost use Rattle.pdl_ops.specs.Parts.{IsDivided, PartsAreCut, StretchedToItself, ValuesAreAsMany, part_values};
 ghost use Rattle.pdl_ops.specs.Values.{fits, new_values};
 
@@ -56,7 +57,7 @@ fn first_zero(numbers: &[i64]) -> Option<usize>
 /// operator that divides. It is found block by block in a room.
 fn divisor_within(op: BinaryOp, ty: Ty, new: &Strided<'_>, room: &mut [i64]) -> Option<u32>
     requires divides { divides op ≡ true }
-    requires room { min (size_of new.now.dims) 512 ≤ length room.old }
+    requires room { min (size_of new.now.dims) BLOCK ≤ length room.old }
     ensures { result ≡ zero_at op (map (wrapped ty) new.now.elems) }
 {
     let count = elements_of(strided_dims(new)) as usize;

@@ -14,7 +14,9 @@ mod laws;
 mod operands;
 mod values;
 
-pub use arrays::{convert, elementwise, unary_each};
+pub use arrays::{
+    Keeping, convert, convert_kept, elementwise, elementwise_kept, unary_each, unary_kept,
+};
 pub use filling::fill;
 pub use fills::Fill;
 pub use in_parts::{first_divisor, stretches, value_laws, values_part};

@@ -123,12 +123,6 @@ join_one c f (x ∷ xs) d h = refl
 pub closed : (old start inner close : List ℕ) → ((old ++ start) ++ inner) ++ close ≡ old ++ ((start ++ inner) ++ close)
 closed old start inner close = append_assoc (old ++ start) inner close ∙ append_assoc old start (inner ++ close) ∙ ap (λ t. old ++ t) (sym (append_assoc start inner close))
 
-pub taken_all : (xs : List ℤ) (i : ℕ) → length xs ≤ i → take i xs ≡ xs
-taken_all [] zero h = refl
-taken_all [] (suc i) h = refl
-taken_all (x ∷ xs) zero h = absurd (omega arith)
-taken_all (x ∷ xs) (suc i) h = ap (λ (t : List ℤ). x ∷ t) (taken_all xs i (omega arith))
-
 -- ---- blocks
 
 pub block_plane : (ds : List ℕ) (around indent first count rows size : ℕ) (es : List ℤ) → around ≡ 0 → rows ≡ get_or ds (around + 1) 0

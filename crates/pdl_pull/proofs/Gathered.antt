@@ -1,10 +1,13 @@
 -- Places that are gathered, one after the other.
-use Rattle.std.proofs.Common.{◌≡◌, ℕ, suc, zero, ◌+◌, ◌<◌, ◌≤◌, Bool, true, false, cond, eqb, List, [], ◌∷◌, length, get_or, drop, Option, Some, None, option_and_then, refl, sym, ◌∙◌, ap, arith, add-one, drop-cons}
+use Rattle.std.proofs.Common.{◌≡◌, ℕ, suc, zero, ◌+◌, ◌<◌, ◌≤◌, Bool, true, false, true≢false, cond, eqb, List, [], ◌∷◌, length, map, get_or, drop, Option, Some, None, option_and_then, refl, sym, ◌∙◌, ap, arith, add-one, drop-cons}
 use Rattle.std.specs.List.{range_with_len}
+use Rattle.std.specs.Prelude.{is_some}
 use Rattle.std.proofs.lemmas.Bool.{eq-eqb}
-use Rattle.std.proofs.lemmas.List.{get_or_past}
+use Rattle.std.proofs.lemmas.List.{ext_get_or, get_or_past}
+use Rattle.std.proofs.lemmas.List.Elements.{All-get_or}
 use Rattle.std.proofs.lemmas.List.FromFn.{length-map-range_with_len, get_or-map-range_with_len}
 use Rattle.std.proofs.lemmas.Simd.{map-map}
+use Rattle.pdl_shape.specs.Places.{AllBelow, IsBelow}
 use Rattle.pdl_shape.specs.Shape.{size_of}
 use Rattle.pdl_shape.specs.Triple.{Triple}
 use Rattle.pdl_numbers.specs.Shown.{place_at}
@@ -60,3 +63,17 @@ through_is known t o r at q e h s p =
 pub through_past : (known : Option (List (Option ℕ))) (t : Triple) (o : Option ℕ) (at : ℕ) → o ≡ Some at → size_of t.dims ≤ at → None ≡ option_and_then (entry (placed_by known t)) o
 through_past known t o at e h =
     sym (get_or_past (placed_by known t) at None (omega (arith, length_placed known t))) ∙ ap (option_and_then (entry (placed_by known t))) (sym e)
+
+-- over a root that is shown place by place, a place below its size stays
+stays : (t : Triple) (o : Option ℕ) → ((p : ℕ) → p < size_of t.dims → place_at t p ≡ p) → IsBelow (size_of t.dims) o → o ≡ option_and_then (entry (placed_by None t)) o
+stays t None same h = refl
+stays t (Some at) same h = ap Some (sym (same at h)) ∙ sym (placed_entry None t at h)
+
+-- and so do all of a list
+pub picked : (known : Option (List (Option ℕ))) (t : Triple) (own : List (Option ℕ)) (n : ℕ) → is_some known ≡ false → length own ≡ n → ((p : ℕ) → p < size_of t.dims → place_at t p ≡ p)
+    → AllBelow (size_of t.dims) own → own ≡ map (λ p. option_and_then (entry (placed_by known t)) (entry own p)) (range_with_len 0 n)
+picked (Some ps) t own n root long same low = absurd (true≢false root)
+picked None t own n root long same low =
+    let f : ℕ → Option ℕ = λ p. option_and_then (entry (placed_by None t)) (entry own p) in
+    ext_get_or None own (map f (range_with_len 0 n)) (long ∙ sym (length-map-range_with_len f 0 n))
+    (λ k h. stays t (get_or own k None) same (All-get_or (IsBelow (size_of t.dims)) own k None h low) ∙ sym (get_or-map-range_with_len f 0 n k k None (omega arith) (omega arith)))

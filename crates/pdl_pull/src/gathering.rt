@@ -1,6 +1,6 @@
 //! Places that are gathered for a view.
 ghost use Rattle.std.specs.List.{range_with_len};
-ghost use Rattle.std.specs.Prelude.{◌≡◌, ℕ, ◌+◌, ◌<◌, ◌≤◌, true, length, map, option_and_then, All, IfOk};
+ghost use Rattle.std.specs.Prelude.{◌≡◌, ℕ, ◌+◌, ◌<◌, ◌≤◌, IsTrue, true, length, map, option_and_then, All, IfOk};
 ghost use Rattle.pdl_shape.specs.Places.{AllBelow};
 ghost use Rattle.pdl_shape.specs.Shape.{size_of};
 ghost use Rattle.pdl_nodes.specs.Assigned.{entry};
@@ -119,6 +119,46 @@ fn place_through(
     }
 }
 
+/// Whether each of these places lies below a size.
+fn are_below(size: u32, places: &[Option<u32>]) -> bool
+    ensures { IsTrue result → AllBelow size places.now }
+{
+    for place in places {
+        match place {
+            Some(at) => {
+                if *at >= size {
+                    return false;
+                }
+            }
+            None => {}
+        }
+    }
+    true
+}
+
+/// Whether the root's places of a view are those that it picks: it picks them from an array that
+/// shows each place of a root at the position of the same number, and all are there.
+fn picks_places(
+    own: &[Option<u32>],
+    count: u32,
+    known: &Option<Places>,
+    shown: &Placement,
+    size: u32,
+) -> bool
+    requires { size ≡ size_of shown.now.dims }
+    ensures { IsTrue result → own.now ≡ map (λ p.
+        option_and_then (entry (placed_by known.now shown.now)) (entry own.now p))
+        (range_with_len 0 count) }
+{
+    if known.is_some() {
+        return false;
+    }
+    if own.len() != count as usize {
+        return false;
+    }
+    shown.is_identity() && are_below(size, own)
+}
+
 /// The root's places of a view over an array that a triple shows over a base.
 pub fn places_through(
     alloc: Global,
@@ -135,6 +175,13 @@ pub fn places_through(
 {
     let shown = Placement::of(triple);
     let mut places = Vec::with_capacity(alloc, count as usize)?;
+    if let Layout::Choice(choice) = layout {
+        let own = choice.places.as_slice();
+        if picks_places(own, count, known, &shown, size) {
+            places.extend_from_slice(own)?;
+            return Ok(places);
+        }
+    }
     for position in 0..count {
         let own = own_at(layout, position);
         places.push(place_through(known, &shown, size, own))?;

@@ -1,6 +1,5 @@
 -- The lines of a root: zeros, and then its elements piece by piece.
 use Rattle.std.proofs.Common.{◌≡◌, ℕ, zero, suc, ◌+◌, ◌*◌, ◌<◌, ◌≤◌, true, false, List, [], ◌∷◌, ◌++◌, length, refl, sym, ◌∙◌, ap, ap₂, subst, arith, map, take, drop, replicate, ℤ, pos, negsuc, length-append, append_assoc, take-append-drop, length-drop, eqb-true}
-use Rattle.std.proofs.lemmas.Int.{ints}
 use Rattle.std.proofs.lemmas.List.{append-nil, map-append, length-take, drop-drop, take_all, drop_all}
 use Rattle.std.proofs.lemmas.List.Elements.{All-head, All-tail, All-cons, All-nil, All-take, All-drop}
 use Rattle.std.proofs.Math.Seq.{take-add}
@@ -8,7 +7,7 @@ use Rattle.std.specs.List.{flat_map, range_with_len, list_any}
 use Rattle.std.specs.Prelude.{Some, None, All}
 use Rattle.pdl_lemmas.specs.Tests.{by_test}
 use Rattle.pdl_elem.specs.declared.Ty.{Ty}
-use Rattle.pdl_elem.specs.declared.Ty.TheVariants.{Sbyte, Byte, Short, Ushort, Long, Ulong, Longlong}
+use Rattle.pdl_elem.specs.declared.Ty.TheVariants.{Longlong}
 use Rattle.pdl_elem.specs.Laws.{WrappingLaws}
 use Rattle.pdl_elem.specs.Types.{InRange}
 use Rattle.pdl_buf.specs.Made.{IsMade}
@@ -57,16 +56,6 @@ unset_zeros (pos (suc n) ∷ es) unset = absurd (true_false unset) where
 unset_zeros (negsuc n ∷ es) unset = absurd (true_false unset) where
   true_false : true ≡ false → ⊥
   true_false e = cc
-
--- the least longlong is a number of longlong alone
-least_longlong : (ty : Ty) → InRange ty (negsuc 9223372036854775807) → ty ≡ Longlong
-least_longlong Sbyte fits = absurd (omega (arith, ints, fits.0))
-least_longlong Byte fits = absurd (omega (arith, ints, fits.0))
-least_longlong Short fits = absurd (omega (arith, ints, fits.0))
-least_longlong Ushort fits = absurd (omega (arith, ints, fits.0))
-least_longlong Long fits = absurd (omega (arith, ints, fits.0))
-least_longlong Ulong fits = absurd (omega (arith, ints, fits.0))
-least_longlong Longlong fits = refl
 
 least_is : (n : ℤ) → is_least n ≡ true → n ≡ negsuc 9223372036854775807
 least_is (pos n) is = absurd (false_true is) where
@@ -151,7 +140,7 @@ module _ (laws : FillLaws) (ws : Watches) (kernels : Named KernelTexts) (names :
       one_least is behind count in_range =
           subst (λ z. Leads (holding (front ++ (pos 0 ∷ behind))) (line_tree (least_line x at)) (holding (front ++ (z ∷ behind)))) (sym is)
           (subst (λ k. Leads (holding (front ++ (pos 0 ∷ behind))) (line_tree (least_line x k)) (holding (front ++ (negsuc 9223372036854775807 ∷ behind)))) (sym place)
-          (least_at ty (sym (least_longlong ty (subst (InRange ty) is in_range))) front behind (resting (front ++ (pos 0 ∷ behind))) count))
+          (least_at ty (sym (laws.wrapping.least ty (subst (InRange ty) is in_range))) front behind (resting (front ++ (pos 0 ∷ behind))) count))
 
   zeros_listed : (es : List ℤ) → zeros (map as_listed es) ≡ zeros es
   zeros_listed [] = refl

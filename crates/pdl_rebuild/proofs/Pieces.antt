@@ -4,6 +4,7 @@ use Rattle.std.proofs.lemmas.List.Elements.{All-head, All-tail}
 use Rattle.std.specs.Prelude.{Some, None, Ok, All, codes, decimal, ◌==◌, ◌&&◌}
 use Rattle.std.specs.List.{range_with_len}
 use Rattle.std.specs.Option.{option_map_or}
+use Rattle.std.proofs.Math.Bool.{or-true}
 use Rattle.pdl_elem.specs.declared.BinaryOp.TheVariants.{Shl}
 use Rattle.pdl_elem.specs.declared.Ty.{Ty}
 use Rattle.pdl_elem.specs.declared.Ty.TheVariants.{Byte, Long, Longlong}
@@ -56,7 +57,7 @@ use Rattle.pdl_rebuild.proofs.Leading.{leads_by}
 use Rattle.pdl_rebuild.proofs.Passing.{with_all, with_all_is, numbered_from, numbered_within, order_below, AreFine, all_fine, live_by, Stays, all_stay, root_shown, array_stays}
 use Rattle.pdl_rebuild.proofs.Places.{flat, from_to, at_one, range_look, flat_dims, flats, span_dims, spans, one_dims, ones, writes}
 use Rattle.pdl_rebuild.proofs.Spelled.{span_read, one_read}
-use Rattle.pdl_rebuild.proofs.Tidying.{same_self, not_same, or_true, AllWithin, tidy_passing}
+use Rattle.pdl_rebuild.proofs.Tidying.{same_self, not_same, AllWithin, tidy_passing}
 
 -- what is seen through a new view
 look_view : (w : World) (k p : ℕ) (t : Trans) (l : Look) → look w p ≡ Some l → look ((k, view p t) ∷ w) k ≡ through t l
@@ -79,7 +80,7 @@ older_stay ((k, root ty ds es) ∷ w) r new order above = ap₂ (λ d u. (k, d) 
 older_stay ((k, view p t) ∷ w) r new order above = ap (λ u. (k, view p t) ∷ u) (older_stay w r new order.1.1 (omega arith))
 
 fits_itself : (k : ℕ) → fits (k ∷ []) (k ∷ []) ≡ true
-fits_itself k = rw (same_self k) (ap (λ b. b && true) (or_true (k == 1)))
+fits_itself k = rw (same_self k) (ap (λ b. b && true) (or-true (k == 1)))
 
 wrapped_same : WrappingLaws → (ty : Ty) (es : List ℤ) → All (InRange ty) es → map (wrapped ty) es ≡ es
 wrapped_same laws ty [] fit = refl

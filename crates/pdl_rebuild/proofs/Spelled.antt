@@ -6,28 +6,15 @@ use Rattle.std.proofs.lemmas.List.Folds.{list_all-append}
 use Rattle.std.specs.Prelude.{Some, None, Ok, ◌==◌, ◌&&◌, decimal}
 use Rattle.std.specs.Fmt.{digits}
 use Rattle.std.specs.List.{list_all}
-use Rattle.std.specs.Char.{is_ascii_digit}
 use Rattle.std.specs.Int.Digits.{digits_of, number_from_digits, number_from_digits_after, AllBelowBase}
 use Rattle.std.proofs.lemmas.Fmt.{decimal-digits_of}
 use Rattle.std.proofs.lemmas.Int.Digits.{first_digits_of, all_below_base_digits_of, number_digits_of}
+use Rattle.pdl_lemmas.specs.Numbers.{digit_is}
 use Rattle.pdl_slices.specs.declared.SliceArg.TheVariants.{One, Span}
 use Rattle.pdl_slices.specs.Grammar.{is_blank, Blanks, no_blank, blank_after, Digits, one_digit, digit_after, plain, Field, given, one, span, one_arg, listed}
 use Rattle.pdl_slices.specs.Meaning.{TextsHaveOneMeaning, slice_of}
 use Rattle.pdl_reread.specs.Trees.{range_text}
 use Rattle.pdl_rebuild.proofs.Tidying.{not_same}
-
-digit_is : (d : ℕ) → d < 10 → is_ascii_digit (48 + d) ≡ true
-digit_is zero below = refl
-digit_is (suc zero) below = refl
-digit_is (suc (suc zero)) below = refl
-digit_is (suc (suc (suc zero))) below = refl
-digit_is (suc (suc (suc (suc zero)))) below = refl
-digit_is (suc (suc (suc (suc (suc zero))))) below = refl
-digit_is (suc (suc (suc (suc (suc (suc zero)))))) below = refl
-digit_is (suc (suc (suc (suc (suc (suc (suc zero))))))) below = refl
-digit_is (suc (suc (suc (suc (suc (suc (suc (suc zero)))))))) below = refl
-digit_is (suc (suc (suc (suc (suc (suc (suc (suc (suc zero))))))))) below = refl
-digit_is (suc (suc (suc (suc (suc (suc (suc (suc (suc (suc d)))))))))) below = absurd (omega arith)
 
 -- digits behind those before spell the number that goes on
 digits_on : (ds : List ℕ) (n : ℕ) (s : List ℕ) → AllBelowBase 10 ds → Digits n s → Digits (number_from_digits_after 10 n ds) (s ++ map (λ d. 48 + d) ds)

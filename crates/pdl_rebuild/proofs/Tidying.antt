@@ -1,10 +1,11 @@
 -- What a tidy leaves.
-use Rattle.std.proofs.Common.{◌≡◌, ℕ, suc, ◌<◌, ◌≤◌, Bool, true, false, List, [], ◌∷◌, ◌++◌, length, refl, sym, ◌∙◌, ap, ap₂, subst, arith, map, eqb-true}
+use Rattle.std.proofs.Common.{◌≡◌, ℕ, suc, ◌<◌, ◌≤◌, true, false, List, [], ◌∷◌, ◌++◌, length, refl, sym, ◌∙◌, ap, ap₂, subst, arith, map, eqb-true}
 use Rattle.std.proofs.lemmas.Bool.{eq-eqb}
 use Rattle.std.proofs.lemmas.List.{append-nil}
 use Rattle.std.proofs.lemmas.List.Folds.{list_any-append}
 use Rattle.std.specs.Prelude.{◌==◌, ◌||◌, Some, None, option_map, is_some}
 use Rattle.std.specs.List.{list_any}
+use Rattle.std.proofs.Math.Bool.{or-true}
 use Rattle.pdl_lemmas.specs.Tests.{by_test}
 use Rattle.pdl_world.specs.KeepingLaws.{MoreKeepAll}
 use Rattle.pdl_world.specs.Swept.{is_listed, parents, sweep, KeepsAll}
@@ -40,10 +41,6 @@ Includes many few = (k : ℕ) → is_listed few k ≡ true → is_listed many k 
 pub listed_append : (xs ys : List ℕ) (k : ℕ) → is_listed (xs ++ ys) k ≡ (is_listed xs k || is_listed ys k)
 listed_append xs ys k = list_any-append (λ v. v == k) xs ys
 
-pub or_true : (b : Bool) → (b || true) ≡ true
-or_true true = refl
-or_true false = refl
-
 pub arrays_append : (names more : Named ℕ) → arrays_of (names ++ more) ≡ arrays_of names ++ arrays_of more
 arrays_append [] more = refl
 arrays_append (n ∷ names) more = ap (λ vs. n.1 ∷ vs) (arrays_append names more)
@@ -55,10 +52,10 @@ pub includes_front : (names more : Named ℕ) → Includes (arrays_of (names ++ 
 includes_front names more k h = ap (λ vs. is_listed vs k) (arrays_append names more) ∙ listed_append (arrays_of names) (arrays_of more) k ∙ ap (λ b. b || is_listed (arrays_of more) k) h
 
 pub includes_back : (names more : Named ℕ) → Includes (arrays_of (names ++ more)) (arrays_of more)
-includes_back names more k h = ap (λ vs. is_listed vs k) (arrays_append names more) ∙ listed_append (arrays_of names) (arrays_of more) k ∙ ap (λ b. is_listed (arrays_of names) k || b) h ∙ or_true (is_listed (arrays_of names) k)
+includes_back names more k h = ap (λ vs. is_listed vs k) (arrays_append names more) ∙ listed_append (arrays_of names) (arrays_of more) k ∙ ap (λ b. is_listed (arrays_of names) k || b) h ∙ or-true (is_listed (arrays_of names) k)
 
 pub includes_behind : (us vs : List ℕ) → Includes (us ++ vs) vs
-includes_behind us vs k h = listed_append us vs k ∙ ap (λ b. is_listed us k || b) h ∙ or_true (is_listed us k)
+includes_behind us vs k h = listed_append us vs k ∙ ap (λ b. is_listed us k || b) h ∙ or-true (is_listed us k)
 
 -- numbers in order stay
 pub older_same : (w : World) (v : ℕ) → InOrder w → v < length w → older w v ≡ v
@@ -92,10 +89,6 @@ names_same w (n ∷ names) order below = ap₂ (λ v ns. (n.0, v) ∷ ns) (older
 abbrev pub AllWithin : ℕ → ℕ → World → Type 0
 AllWithin n j [] = Unit {0}
 AllWithin n j ((k, d) ∷ w) = (n ≤ k) × ((k < j) × AllWithin n j w)
-
-pub within_more : (n i j : ℕ) (u : World) → i ≤ j → AllWithin n i u → AllWithin n j u
-within_more n i j [] le a = tt
-within_more n i j ((k, d) ∷ u) le a = (a.0, (omega (arith, a.1.0), within_more n i j u le a.1.1))
 
 -- none of the numbers from n on is listed, but j
 abbrev pub ListsOnly : ℕ → ℕ → List ℕ → Type 0

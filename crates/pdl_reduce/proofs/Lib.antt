@@ -10,3 +10,4 @@ pub mod Paired
 pub mod Resolved
 pub mod Pairs
 pub mod Readiness
+pub mod ShortRows

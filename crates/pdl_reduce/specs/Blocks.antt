@@ -1,5 +1,5 @@
 -- A step of the proof: the pairings are products of blocks of elements as matrices.
-use Rattle.std.specs.Prelude.{◌≡◌, ◌<◌, ◌≤◌, ℕ, ◌+◌, ◌*◌, ◌/◌, ◌%◌, ◌==◌, ℤ, pos, ◌*ℤ◌, if◌then◌else◌, List, length, get_or, map, take, drop, Option, Some, None}
+use Rattle.std.specs.Prelude.{◌≡◌, ◌<◌, ◌≤◌, ℕ, ◌+◌, ◌*◌, ◌/◌, ◌%◌, ◌==◌, ℤ, pos, ◌*ℤ◌, if◌then◌else◌, List, ◌++◌, length, get_or, map, take, drop, Option, Some, None}
 use Rattle.std.specs.List.{range_with_len}
 use Rattle.pdl_elem.specs.declared.Ty.{Ty}
 use Rattle.pdl_elem.specs.Numbers.{wrapped}
@@ -10,6 +10,7 @@ use Rattle.pdl_reduce.specs.Pairings.{sum_below}
 use Rattle.pdl_reduce.specs.declared.Pairing.{Pairing}
 use Rattle.pdl_reduce.specs.declared.Pairing.TheVariants.{Inner, Outer, Matmult}
 use Rattle.pdl_reduce.specs.declared.matrices.Sizes.{Sizes}
+use Rattle.pdl_reduce.specs.declared.sums.TheConstants.{SHORT}
 
 -- the coordinate that is used along a size: 0 along a size of 1, which is stretched
 abbrev pub cut : (size coordinate : ℕ) → ℕ
@@ -120,6 +121,17 @@ abbrev pub ReadyFor : Pairing → Sizes → (a b : List ℤ) → (a_sizes b_size
 ReadyFor Inner s a b xs ys joined = Ready s a b xs ys joined
 ReadyFor Outer s a b xs ys joined = Ready s b a ys xs joined
 ReadyFor Matmult s a b xs ys joined = Ready s a b xs ys joined
+
+-- the blocks are short rows, and each product is one sum
+pub record AreShortRows (s : Sizes) : Type 0 where
+  pub height : s.height ≡ 1
+  pub width : s.width ≡ 1
+  pub left : s.left_depth ≤ SHORT
+  pub right : s.right_depth ≤ SHORT
+
+-- these sizes are the first ones of a broadcast
+abbrev pub AreFirst : (sizes joined : List ℕ) → Type 0
+AreFirst sizes joined = joined ≡ sizes ++ drop (length sizes) joined
 
 -- the products of a pairing's blocks
 abbrev pub block_products : Pairing → Ty → Sizes → (a b : List ℤ)

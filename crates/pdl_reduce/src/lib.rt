@@ -13,6 +13,7 @@ mod meeting;
 mod products;
 mod reducing;
 mod rows;
+mod sums;
 mod windows;
 
 pub use products::pair;

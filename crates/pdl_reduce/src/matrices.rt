@@ -90,7 +90,7 @@ fn add_depths(sizes: Sizes, i: usize, left: &[i64], right: &[i64], row: &mut [i6
 
 /// Sets a row to row `i` of the product, in words that wrap. A column of one number is a sum over
 /// two slices, where none of them is stretched.
-fn set_row(sizes: Sizes, i: usize, left: &[i64], right: &[i64], row: &mut [i64])
+pub(crate) fn set_row(sizes: Sizes, i: usize, left: &[i64], right: &[i64], row: &mut [i64])
     requires fit { Fit sizes left.now right.now }
     requires inside { i < sizes.height }
     requires width { length row.old ≡ sizes.width }

@@ -8,24 +8,16 @@ ghost use Rattle.pdl_reduce.specs.Blocks.{IsHeld, Ready, all_products, nth_block
 
 use crate::collected::Collected;
 use crate::matrices::{Sizes, add_product};
+use crate::sums::{are_short_rows, put_sums, read_wrapped};
 use pdl_broadcast::BroadcastWalk;
-use pdl_buf::{Packing, Strided, strided_read};
-use pdl_elem::{Ty, wrap_all};
+use pdl_buf::{Packing, Strided};
+use pdl_elem::Ty;
 use pdl_shape::{Dims, elements_of, shape_laws};
 use std::alloc::{AllocError, Global};
 
-/// Reads a window's block at a position, in blocks as long as this one, wrapped to a type.
-fn read_block(ty: Ty, from: &Strided<'_>, position: u32, into: &mut [i64])
-    requires within { position * length into.old + length into.old ≤ length from.now.elems }
-    requires small { length from.now.elems ≤ extent_limit }
-    ensures { into.new ≡ nth_block ty (length into.old) from.now.elems position }
-{
-    strided_read(from, position * into.len() as u32, into);
-    wrap_all(ty, into);
-}
-
-/// Reads a window's block at a position as `read_block` does, where it isn't the one that is held:
-/// a block that is stretched over places that follow one another is read once for them.
+/// Reads a window's block at a position, in blocks as long as this one, wrapped to a type, where it
+/// isn't the one that is held: a block that is stretched over places that follow one another is read
+/// once for them.
 fn hold_block(ty: Ty, from: &Strided<'_>, position: u32, held: &mut Option<u32>, block: &mut [i64])
     requires within { position * length block.old + length block.old ≤ length from.now.elems }
     requires small { length from.now.elems ≤ extent_limit }
@@ -34,7 +26,7 @@ fn hold_block(ty: Ty, from: &Strided<'_>, position: u32, held: &mut Option<u32>,
     ensures held { IsHeld ty from.now.elems held.new block.new }
 {
     if *held != Some(position) {
-        read_block(ty, from, position, block);
+        read_wrapped(ty, from, position * block.len() as u32, block);
         *held = Some(position);
     }
 }
@@ -132,16 +124,30 @@ pub(crate) fn products(
         IfOk result (λ made. made ≡ record { ty = ty; elems = elems }) }
 {
     let mut made = Collected::new(alloc, ty, count)?;
-    put_products(
-        alloc,
-        ty,
-        sizes,
-        left,
-        right,
-        left_sizes,
-        right_sizes,
-        joined,
-        &mut made,
-    )?;
+    if are_short_rows(sizes, left_sizes, right_sizes, joined) {
+        put_sums(
+            alloc,
+            ty,
+            sizes,
+            left,
+            right,
+            left_sizes,
+            right_sizes,
+            joined,
+            &mut made,
+        )?;
+    } else {
+        put_products(
+            alloc,
+            ty,
+            sizes,
+            left,
+            right,
+            left_sizes,
+            right_sizes,
+            joined,
+            &mut made,
+        )?;
+    }
     made.packed()
 }

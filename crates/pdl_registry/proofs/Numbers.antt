@@ -9,20 +9,11 @@ use Rattle.std.specs.List.{AllByRecursion, remove}
 use Rattle.std.specs.List.Sorted.{IsStrictlySortedBy}
 use Rattle.std.specs.Map.{keys_of, lookup}
 use Rattle.std.specs.Option.{option_or}
-use Rattle.std.specs.Ordering.{flip_args, is_eq, is_lt, nat_cmp}
+use Rattle.std.specs.Ordering.{flip_args, is_lt, nat_cmp}
 use Rattle.std.specs.declared.cmp.Ordering.TheVariants.{Less, Equal, Greater}
 use Rattle.std.specs.declared.ops.Bound.TheVariants.{Included, Unbounded}
+use Rattle.pdl_lemmas.specs.Numbers.{at_other, at_same}
 use Rattle.pdl_registry.specs.Numbered.{AllAbove, IsAbove, IsPlace, IsPut, Rises, first_from, value_at}
-
--- the test of a number
-pub at_same : (v k : ℕ) → k ≡ v → is_eq (nat_cmp v k) ≡ true
-at_same v k e = ap is_eq (sym (nat_cmp_is v k Equal (sym e)))
-
-pub at_other : (v k : ℕ) → (k ≡ v → ⊥) → is_eq (nat_cmp v k) ≡ false
-at_other v k n = elim (leb_tells v k) [
-  | inl t ↦ (let l : v < k = omega (arith, t.1, n) in ap is_eq (sym (nat_cmp_is v k Less l)))
-  | inr t ↦ ap is_eq (sym (nat_cmp_is v k Greater t.1))
-]
 
 is_less : (a b : ℕ) → nat_cmp a b ≡ Less → a < b
 is_less a b h = elim (eqb_tells a b) [

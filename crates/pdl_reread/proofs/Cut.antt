@@ -4,6 +4,7 @@ use Rattle.std.proofs.lemmas.Bool.{le-ltb}
 use Rattle.std.specs.Prelude.{Some, None, not, ◌==◌, ◌&&◌, option_and_then, bytes_eq, codes}
 use Rattle.std.specs.List.{list_all, list_any}
 use Rattle.std.specs.Char.{is_ascii_digit}
+use Rattle.pdl_lemmas.specs.Tests.{by_test}
 use Rattle.pdl_lex.specs.Bytes.{is_blank, is_quote, is_letter, is_word_byte, newlines}
 use Rattle.pdl_lex.specs.Joining.{mode_behind, IsStatement, pieces_from, StatementsJoin, BlanksJoin, PartsJoin}
 use Rattle.pdl_lex.specs.Limits.{statement_limit}
@@ -21,10 +22,6 @@ use Rattle.pdl_reread.specs.Scripts.{AreLines, statements, line_behind, LinesAre
 use Rattle.pdl_reread.specs.Trees.{IsLine}
 use Rattle.pdl_reread.proofs.Items.{line_items, line_is, line_apart}
 
-by_bool : {P : Type 0} (b : Bool) → (b ≡ true → P) → (b ≡ false → P) → P
-by_bool true when_true when_false = when_true refl
-by_bool false when_true when_false = when_false refl
-
 -- a byte that ends no statement and begins neither a comment nor a string
 abbrev is_code : ℕ → Bool
 is_code b = not (b == 59) && (not (b == 35) && (not (b == 34) && not (b == 39)))
@@ -33,14 +30,14 @@ is_code b = not (b == 59) && (not (b == 35) && (not (b == 34) && not (b == 39)))
 by_four : (p : ℕ → Bool) (b : ℕ) → p 59 ≡ false → p 35 ≡ false → p 34 ≡ false → p 39 ≡ false → p b ≡ true → is_code b ≡ true
 by_four p b no59 no35 no34 no39 passes = rw (other 59 no59, other 35 no35, other 34 no34, other 39 no39) refl where
   other : (c : ℕ) → p c ≡ false → (b == c) ≡ false
-  other c fails = by_bool (b == c) (λ same. absurd (both c fails (eqb-true b c same))) (λ differs. differs) where
+  other c fails = by_test (b == c) (λ same. absurd (both c fails (eqb-true b c same))) (λ differs. differs) where
     both : (c : ℕ) → p c ≡ false → b ≡ c → ⊥
     both c fails same = let never : p b ≡ false = subst (λ x. p x ≡ false) (sym same) fails in absurd (cc)
 
 all_code : (p : ℕ → Bool) (bs : List ℕ) → p 59 ≡ false → p 35 ≡ false → p 34 ≡ false → p 39 ≡ false → list_all p bs ≡ true → list_all is_code bs ≡ true
 all_code p [] no59 no35 no34 no39 all = refl
 all_code p (b ∷ bs) no59 no35 no34 no39 all =
-    by_bool (p b)
+    by_test (p b)
     (λ yes. rw (by_four p b no59 no35 no34 no39 yes) (all_code p bs no59 no35 no34 no39 (rw yes at all)))
     (λ no. let never : false ≡ true = rw no at all in absurd (cc))
 
@@ -48,13 +45,13 @@ all_code p (b ∷ bs) no59 no35 no34 no39 all =
 code_stays : (bs : List ℕ) → list_all is_code bs ≡ true → mode_behind Code bs ≡ Some Code
 code_stays [] all = refl
 code_stays (b ∷ bs) all =
-    by_bool (b == 59)
+    by_test (b == 59)
     (λ yes. let never : false ≡ true = rw yes at all in absurd (cc))
-    (λ no59. by_bool (b == 35)
+    (λ no59. by_test (b == 35)
     (λ yes. let never : false ≡ true = rw (no59, yes) at all in absurd (cc))
-    (λ no35. by_bool (b == 34)
+    (λ no35. by_test (b == 34)
     (λ yes. let never : false ≡ true = rw (no59, no35, yes) at all in absurd (cc))
-    (λ no34. by_bool (b == 39)
+    (λ no34. by_test (b == 39)
     (λ yes. let never : false ≡ true = rw (no59, no35, no34, yes) at all in absurd (cc))
     (λ no39. rw (no59, no35, no34, no39) (code_stays bs (rw (no59, no35, no34, no39) at all))))))
 
@@ -64,15 +61,15 @@ same_bytes [] [] same = refl
 same_bytes [] (y ∷ ys) same = absurd (cc)
 same_bytes (x ∷ xs) [] same = absurd (cc)
 same_bytes (x ∷ xs) (y ∷ ys) same =
-    by_bool (x == y)
+    by_test (x == y)
     (λ yes. ap₂ (λ a cs. a ∷ cs) (eqb-true x y yes) (same_bytes xs ys (rw yes at same)))
     (λ no. let never : false ≡ true = rw no at same in absurd (cc))
 
 in_table : (table : List (List ℕ)) (xs : List ℕ) → list_all (λ t. list_all is_code t) table ≡ true → list_any (bytes_eq xs) table ≡ true → list_all is_code xs ≡ true
 in_table [] xs all found = absurd (cc)
 in_table (t ∷ table) xs all found =
-    by_bool (list_all is_code t)
-    (λ code. by_bool (bytes_eq xs t)
+    by_test (list_all is_code t)
+    (λ code. by_test (bytes_eq xs t)
     (λ same. subst (λ ys. list_all is_code ys ≡ true) (sym (same_bytes xs t same)) code)
     (λ other. in_table table xs (rw code at all) (rw other at found)))
     (λ no. let never : false ≡ true = rw no at all in absurd (cc))
@@ -93,7 +90,7 @@ fits_kind false K kind h = absurd (cc)
 word_code : (bs : List ℕ) → is_word bs ≡ true → list_all is_code bs ≡ true
 word_code [] is = absurd (cc)
 word_code (b ∷ bs) is =
-    by_bool (is_letter b)
+    by_test (is_letter b)
     (λ letter. rw (by_four is_letter b refl refl refl refl letter) (all_code is_word_byte bs refl refl refl refl (rw letter at is)))
     (λ no. let never : false ≡ true = rw no at is in absurd (cc))
 
@@ -101,23 +98,23 @@ word_code (b ∷ bs) is =
 kind_code : (kind : TokenKind) (bytes : List ℕ) → kind_of bytes ≡ Some kind → (kind ≡ Str → ⊥) → list_all is_code bytes ≡ true
 kind_code kind [] is plain = absurd (cc)
 kind_code kind (b ∷ bs) is plain =
-    by_bool (is_letter b)
+    by_test (is_letter b)
     (λ letter.
     let f = fits_kind (list_all is_word_byte bs) Word kind (rw letter at is) in
     rw (by_four is_letter b refl refl refl refl letter) (all_code is_word_byte bs refl refl refl refl f.0))
-    (λ no_letter. by_bool (b == 36)
+    (λ no_letter. by_test (b == 36)
     (λ dollar.
     let f = fits_kind (is_word bs) Name kind (rw (no_letter, dollar) at is) in
     rw (by_four (λ c. c == 36) b refl refl refl refl dollar) (word_code bs f.0))
-    (λ no_dollar. by_bool (b == 48)
+    (λ no_dollar. by_test (b == 48)
     (λ nought.
     let f = fits_kind (length bs == 0) Number kind (rw (no_letter, no_dollar, nought) at is) in
     rw (by_four (λ c. c == 48) b refl refl refl refl nought) (empty_code bs f.0))
-    (λ no_nought. by_bool (is_ascii_digit b)
+    (λ no_nought. by_test (is_ascii_digit b)
     (λ digit.
     let f = fits_kind (list_all is_ascii_digit bs) Number kind (rw (no_letter, no_dollar, no_nought, digit) at is) in
     rw (by_four is_ascii_digit b refl refl refl refl digit) (all_code is_ascii_digit bs refl refl refl refl f.0))
-    (λ no_digit. by_bool (is_quote b)
+    (λ no_digit. by_test (is_quote b)
     (λ quote.
     let f = fits_kind (is_closed b bs) Str kind (rw (no_letter, no_dollar, no_nought, no_digit, quote) at is) in
     absurd (plain (sym f.1)))
@@ -132,15 +129,15 @@ kind_code kind (b ∷ bs) is plain =
 -- a string token is closed by its quote
 string_kind : (b : ℕ) (bs : List ℕ) → kind_of (b ∷ bs) ≡ Some Str → (is_quote b ≡ true) × (is_closed b bs ≡ true)
 string_kind b bs is =
-    by_bool (is_letter b)
+    by_test (is_letter b)
     (λ letter. absurd (no_word (fits_kind (list_all is_word_byte bs) Word Str (rw letter at is)).1))
-    (λ no_letter. by_bool (b == 36)
+    (λ no_letter. by_test (b == 36)
     (λ dollar. absurd (no_name (fits_kind (is_word bs) Name Str (rw (no_letter, dollar) at is)).1))
-    (λ no_dollar. by_bool (b == 48)
+    (λ no_dollar. by_test (b == 48)
     (λ nought. absurd (no_number (fits_kind (length bs == 0) Number Str (rw (no_letter, no_dollar, nought) at is)).1))
-    (λ no_nought. by_bool (is_ascii_digit b)
+    (λ no_nought. by_test (is_ascii_digit b)
     (λ digit. absurd (no_number (fits_kind (list_all is_ascii_digit bs) Number Str (rw (no_letter, no_dollar, no_nought, digit) at is)).1))
-    (λ no_digit. by_bool (is_quote b)
+    (λ no_digit. by_test (is_quote b)
     (λ quote. (quote, (fits_kind (is_closed b bs) Str Str (rw (no_letter, no_dollar, no_nought, no_digit, quote) at is)).0))
     (λ no_quote. absurd (no_sign (fits_kind (is_sign (b ∷ bs)) Sign Str (rw (no_letter, no_dollar, no_nought, no_digit, no_quote) at is)).1))))))
   where
@@ -161,7 +158,7 @@ closed_leaves : (quote : ℕ) (inside : Mode) → (quote == 59) ≡ false → ((
     → (bs : List ℕ) → is_closed quote bs ≡ true → mode_behind inside bs ≡ Some Code
 closed_leaves quote inside no59 ends goes_on [] closed = absurd (cc)
 closed_leaves quote inside no59 ends goes_on (b ∷ bs) closed =
-    by_bool (b == quote)
+    by_test (b == quote)
     (λ same. last b bs same (rw same at closed) (ends b same))
     (λ other. goes_on b bs other ∙ closed_leaves quote inside no59 ends goes_on bs (rw other at closed))
   where
@@ -171,7 +168,7 @@ closed_leaves quote inside no59 ends goes_on (b ∷ bs) closed =
 
 string_stays : (b : ℕ) (bs : List ℕ) → is_quote b ≡ true → is_closed b bs ≡ true → mode_behind Code (b ∷ bs) ≡ Some Code
 string_stays b bs is closed =
-    by_bool (b == 34)
+    by_test (b == 34)
     (λ double. subst (λ q. mode_behind Code (q ∷ bs) ≡ Some Code) (sym (eqb-true b 34 double))
     (closed_leaves 34 Double refl (λ c e. rw e refl) (λ c cs e. rw e refl) bs (subst (λ q. is_closed q bs ≡ true) (eqb-true b 34 double) closed)))
     (λ other.
@@ -188,9 +185,6 @@ token_stays Sign bytes is = code_stays bytes (kind_code Sign bytes is (λ e. abs
 token_stays Str [] is = absurd (cc)
 token_stays Str (b ∷ bs) is =
     let f = string_kind b bs is in string_stays b bs f.0 f.1
-
-blank_stays : (b : ℕ) → is_blank b ≡ true → is_code b ≡ true
-blank_stays b is = by_four is_blank b refl refl refl refl is
 
 -- no gap stands before the first token
 abbrev IsTight : List Written → Type 0
@@ -220,7 +214,7 @@ module _ (parts : PartsJoin) where
   first_is : (kind : TokenKind) (b : ℕ) (bs : List ℕ) → kind_of (b ∷ bs) ≡ Some kind → is_between Code b ≡ false
   first_is kind b bs is = rw (other 32 (no32 bs), other 9 (no9 bs), other 10 (no10 bs), other 13 (no13 bs), other 35 (no35 bs)) refl where
     other : (c : ℕ) → kind_of (c ∷ bs) ≡ None → (b == c) ≡ false
-    other c fails = by_bool (b == c) (λ same. absurd (both c fails (eqb-true b c same))) (λ differs. differs) where
+    other c fails = by_test (b == c) (λ same. absurd (both c fails (eqb-true b c same))) (λ differs. differs) where
       both : (c : ℕ) → kind_of (c ∷ bs) ≡ None → b ≡ c → ⊥
       both c fails same = let never : kind_of (b ∷ bs) ≡ None = subst (λ x. kind_of (x ∷ bs) ≡ None) (sym same) fails in absurd (cc)
 

@@ -1,5 +1,5 @@
 -- Numbers in decimal, and back.
-use Rattle.std.proofs.Common.{◌≡◌, ℕ, zero, suc, ◌+◌, ◌*◌, ◌<◌, ◌≤◌, ◌^◌, Bool, true, false, List, [], ◌∷◌, ◌++◌, refl, sym, ◌∙◌, ap, subst, arith, map, fold, get_or, eqb-true}
+use Rattle.std.proofs.Common.{◌≡◌, ℕ, zero, suc, ◌+◌, ◌*◌, ◌<◌, ◌≤◌, ◌^◌, true, false, List, [], ◌∷◌, ◌++◌, refl, sym, ◌∙◌, ap, subst, arith, map, fold, get_or, eqb-true}
 use Rattle.std.specs.Prelude.{Some, ◌==◌, not, decimal}
 use Rattle.std.specs.Fmt.{digits}
 use Rattle.std.specs.List.{list_all}
@@ -7,6 +7,8 @@ use Rattle.std.specs.Char.{is_ascii_digit}
 use Rattle.std.specs.Int.Digits.{digits_of, number_from_digits_after, AllBelowBase}
 use Rattle.std.proofs.lemmas.Fmt.{decimal-digits_of}
 use Rattle.std.proofs.lemmas.Int.Digits.{first_digits_of, all_below_base_digits_of, number_digits_of, number_after_ge}
+use Rattle.pdl_lemmas.specs.Numbers.{digit_is}
+use Rattle.pdl_lemmas.specs.Tests.{by_test}
 use Rattle.pdl_lex.specs.Bytes.{is_letter}
 use Rattle.pdl_lex.specs.Tokens.{kind_of, is_sign}
 use Rattle.pdl_lex.specs.Written.{joins}
@@ -32,10 +34,6 @@ first_digit (suc (suc (suc (suc (suc (suc (suc zero))))))) above below = record 
 first_digit (suc (suc (suc (suc (suc (suc (suc (suc zero)))))))) above below = record { no_letter = refl; no_dollar = refl; no_nought = refl; digit = refl; minus = refl }
 first_digit (suc (suc (suc (suc (suc (suc (suc (suc (suc zero))))))))) above below = record { no_letter = refl; no_dollar = refl; no_nought = refl; digit = refl; minus = refl }
 first_digit (suc (suc (suc (suc (suc (suc (suc (suc (suc (suc d)))))))))) above below = absurd (omega arith)
-
-digit_is : (d : ℕ) → d < 10 → is_ascii_digit (48 + d) ≡ true
-digit_is zero below = refl
-digit_is (suc d) below = (first_digit (suc d) (omega arith) below).digit
 
 digits_all : (ds : List ℕ) → AllBelowBase 10 ds → list_all is_ascii_digit (map (λ d. 48 + d) ds) ≡ true
 digits_all [] below = refl
@@ -84,10 +82,7 @@ minus_apart n rest small =
     (minus_digits (digits_of 10 (suc n)) rest (all_below_base_digits_of 10 (suc n) (omega arith)) (first_digits_of 10 (suc n) (omega arith) (omega arith)))
 
 no_quote : (d : ℕ) → (48 + d == 34) ≡ false
-no_quote d = by_bool (48 + d == 34) (λ same. absurd (omega (arith, eqb-true (48 + d) 34 same))) (λ other. other) where
-  by_bool : {P : Type 0} (b : Bool) → (b ≡ true → P) → (b ≡ false → P) → P
-  by_bool true when_true when_false = when_true refl
-  by_bool false when_true when_false = when_false refl
+no_quote d = by_test (48 + d == 34) (λ same. absurd (omega (arith, eqb-true (48 + d) 34 same))) (λ other. other)
 
 no_quotes : (ds : List ℕ) → list_all (λ b. not (b == 34)) (map (λ d. 48 + d) ds) ≡ true
 no_quotes [] = refl

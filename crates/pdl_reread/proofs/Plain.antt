@@ -1,7 +1,7 @@
 -- No line has a nice part, so each is read as it stands.
-use Rattle.std.proofs.Common.{◌≡◌, ℕ, ◌+◌, ◌-◌, ◌≤◌, false, List, [], ◌∷◌, ◌++◌, length, ℤ, pos, negsuc, refl, sym, ◌∙◌, ap, ap₂, subst, arith, take, drop, Ok}
-use Rattle.std.proofs.Math.Seq.{take-append_seam, drop-append_seam}
-use Rattle.std.proofs.lemmas.List.{drop-drop}
+use Rattle.std.proofs.Common.{◌≡◌, ℕ, ◌+◌, ◌-◌, ◌≤◌, false, List, [], ◌∷◌, ◌++◌, length, ℤ, pos, negsuc, refl, ◌∙◌, ap, ap₂, subst, arith, take, drop, Ok}
+use Rattle.std.proofs.Math.Seq.{take-append_seam}
+use Rattle.pdl_lemmas.specs.Lists.{drop_behind}
 use Rattle.pdl_lex.specs.declared.Token.{Token}
 use Rattle.pdl_lex.specs.Limits.{statement_limit}
 use Rattle.pdl_lex.specs.Tokens.{toks}
@@ -28,18 +28,15 @@ found_between text at bytes rest to is here =
     long : (a n b : ℕ) → b ≡ a + n → b - a ≡ n
     long a n b e = omega (arith, e)
 
-further : (text : List ℕ) (at : ℕ) (bytes rest : List ℕ) → drop at text ≡ bytes ++ rest → drop (at + length bytes) text ≡ rest
-further text at bytes rest here = sym (drop-drop (length bytes) at text) ∙ ap (drop (length bytes)) here ∙ drop-append_seam bytes rest
-
 written_again : (text : List ℕ) (at : ℕ) (ws : List Written) → drop at text ≡ text_of ws [] → written text at (placed at ws) ≡ ws
 written_again text at [] here = refl
 written_again text at (w ∷ ws) here =
     let from : ℕ = at + length w.gap in
-    let behind_gap : drop from text ≡ w.bytes ++ text_of ws [] = further text at w.gap (w.bytes ++ text_of ws []) here in
+    let behind_gap : drop from text ≡ w.bytes ++ text_of ws [] = drop_behind text at w.gap (w.bytes ++ text_of ws []) here in
     let gap_is : between text at from ≡ w.gap = found_between text at w.gap (w.bytes ++ text_of ws []) from refl here in
     let bytes_are : between text from (from + length w.bytes) ≡ w.bytes = found_between text from w.bytes (text_of ws []) (from + length w.bytes) refl behind_gap in
     let rest : written text (from + length w.bytes) (placed (from + length w.bytes) ws) ≡ ws =
-    written_again text (from + length w.bytes) ws (further text from w.bytes (text_of ws []) behind_gap) in
+    written_again text (from + length w.bytes) ws (drop_behind text from w.bytes (text_of ws []) behind_gap) in
     all_same gap_is bytes_are rest
   where
     all_same : {g h x y : List ℕ} {us vs : List Written} → g ≡ h → x ≡ y → us ≡ vs

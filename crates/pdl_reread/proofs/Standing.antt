@@ -2,9 +2,9 @@
 use Rattle.std.proofs.Common.{◌≡◌, ℕ, suc, ◌+◌, ◌-◌, true, List, [], ◌∷◌, ◌++◌, length, refl, sym, ◌∙◌, ap, ap₂, arith, take, drop, length-append, append_assoc}
 use Rattle.std.specs.Prelude.{Ok}
 use Rattle.std.specs.List.{list_all}
-use Rattle.std.proofs.Math.Seq.{take-append_seam, drop-append_seam}
+use Rattle.std.proofs.Math.Seq.{take-append_seam}
 use Rattle.std.proofs.lemmas.Bool.{and_parts}
-use Rattle.std.proofs.lemmas.List.{drop-drop}
+use Rattle.pdl_lemmas.specs.Lists.{drop_behind}
 use Rattle.pdl_lex.specs.Bytes.{is_blank}
 use Rattle.pdl_lex.specs.declared.Token.{Token}
 use Rattle.pdl_lex.specs.declared.TokenKind.{TokenKind}
@@ -45,10 +45,6 @@ behind_is at [] = none at
     none a = omega arith
 behind_is at (b ∷ gap) = refl
 
-stands_behind : (source : List ℕ) (at : ℕ) (bytes rest : List ℕ) → drop at source ≡ bytes ++ rest → drop (at + length bytes) source ≡ rest
-stands_behind source at bytes rest here =
-    sym (drop-drop (length bytes) at source) ∙ ap (drop (length bytes)) here ∙ drop-append_seam bytes rest
-
 read_there : (source : List ℕ) (at : ℕ) (bytes rest : List ℕ) → drop at source ≡ bytes ++ rest → bytes_at source (span_at at bytes) ≡ bytes
 read_there source at bytes rest here = ap₂ take (length_of at (length bytes)) here ∙ take-append_seam bytes rest
   where
@@ -58,7 +54,7 @@ read_there source at bytes rest here = ap₂ take (length_of at (length bytes)) 
 read_inside : (source : List ℕ) (at quote : ℕ) (inside rest : List ℕ) → drop at source ≡ quoted quote inside ++ rest → bytes_at source (inside_at at (quoted quote inside)) ≡ inside
 read_inside source at quote inside rest here =
     ap₂ take (length_of at (length (inside ++ quote ∷ [])) (length inside) (length-append inside (quote ∷ [])))
-    (stands_behind source at (quote ∷ []) ((inside ++ quote ∷ []) ++ rest) here ∙ append_assoc inside (quote ∷ []) rest)
+    (drop_behind source at (quote ∷ []) ((inside ++ quote ∷ []) ++ rest) here ∙ append_assoc inside (quote ∷ []) rest)
     ∙ take-append_seam inside (quote ∷ rest)
   where
     length_of : (a m n : ℕ) → m ≡ n + 1 → a + suc m - 1 - (a + 1) ≡ n
@@ -76,9 +72,9 @@ pub all_stand : (source : List ℕ) (at : ℕ) (ws : List Written) → drop at s
 all_stand source at [] here = tt
 all_stand source at (w ∷ ws) here =
     let there : drop (behind at w.gap) source ≡ w.bytes ++ text_of ws [] =
-    ap (λ (n : ℕ). drop n source) (behind_is at w.gap) ∙ stands_behind source at w.gap (w.bytes ++ text_of ws []) here in (
+    ap (λ (n : ℕ). drop n source) (behind_is at w.gap) ∙ drop_behind source at w.gap (w.bytes ++ text_of ws []) here in (
       one_stands source (behind at w.gap) w.kind w.bytes (text_of ws []) there,
-      all_stand source (behind at w.gap + length w.bytes) ws (stands_behind source (behind at w.gap) w.bytes (text_of ws []) there),
+      all_stand source (behind at w.gap + length w.bytes) ws (drop_behind source (behind at w.gap) w.bytes (text_of ws []) there),
     )
 
 -- ---- their lexemes

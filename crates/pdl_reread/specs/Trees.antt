@@ -10,6 +10,7 @@ use Rattle.pdl_lexemes.specs.declared.Lexeme.TheVariants.{Word as a_word}
 use Rattle.pdl_lexemes.specs.declared.Span.{Span}
 use Rattle.pdl_lexemes.specs.declared.WordKind.TheVariants.{View}
 use Rattle.pdl_lexemes.specs.Lexing.{word_of}
+use Rattle.pdl_lexemes.specs.Limits.{number_limit}
 use Rattle.pdl_lexemes.specs.Lists.{type_of}
 use Rattle.pdl_lexemes.specs.Texts.{IsName, IsQuotable, lacks}
 use Rattle.pdl_shape.specs.Shape.{extent_limit}
@@ -64,7 +65,7 @@ line_tree (undef_line x) = undef x
 
 -- a number that a literal can have
 abbrev pub Fits : ℤ → Type 0
-Fits n = nat_abs n ≤ 9223372036854775807
+Fits n = nat_abs n ≤ number_limit
 
 abbrev pub AllSmall : List ℕ → Type 0
 AllSmall [] = Unit {0}

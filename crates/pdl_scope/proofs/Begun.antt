@@ -3,7 +3,7 @@ use Rattle.std.proofs.Common.{◌≡◌, ℕ, ℤ, zero, suc, ◌+◌, ◌<◌, 
 use Rattle.std.specs.Prelude.{◌==◌, ◌||◌, if◌then◌else◌, All}
 use Rattle.std.specs.List.{list_any}
 use Rattle.std.proofs.lemmas.List.Folds.{list_any-append}
-use Rattle.std.proofs.lemmas.List.{length-append, length-take, take_more}
+use Rattle.std.proofs.lemmas.List.{length-take, take_more}
 use Rattle.pdl_elem.specs.declared.Ty.{Ty}
 use Rattle.pdl_buf.specs.declared.made.Made.{Made}
 use Rattle.pdl_ops.specs.Elementwise.{OpRefusal}
@@ -33,7 +33,6 @@ use Rattle.pdl_engine.specs.Held.{count_at, holders, one_more_at}
 use Rattle.pdl_engine.specs.HoldLaws.{OneMoreCounts}
 use Rattle.pdl_scope.proofs.FlowsStay.{GrowthLaws, each_at, flow_live, flows_joined, live_listed, older_seen, seen_live, seen_shows, shown_same}
 use Rattle.pdl_scope.proofs.Held.{times_few, times_more}
-use Rattle.pdl_scope.proofs.Needed.{all_read_more}
 
 -- ---- lists
 
@@ -45,17 +44,6 @@ live_at w (v ∷ vs) (suc i) live lt = live_at w vs i live.1 (omega arith)
 -- what is read first, or later
 pub read_first : (w : World) (xs ys : List ℕ) (v : ℕ) → is_reached w (xs ++ ys) v ≡ (is_reached w xs v || is_reached w ys v)
 read_first w xs ys v = list_any-append (λ u. is_listed (path w u) v) xs ys
-
--- one formula more reads so many more
-pub reads_more : (flows : Flows) (i : ℕ) (f : Flow) → i < length flows → f ≡ get_or flows i f → length (all_read (take (i + 1) flows)) ≡ length (all_read (take i flows)) + length (arrays_in f.formula)
-reads_more flows i f lt is =
-    ap (λ (fs : Flows). length (all_read fs)) (take_more flows i f lt ∙ ap (λ (h : Flow). take i flows ++ h ∷ []) (sym is))
-    ∙ ap (λ (ks : List ℕ). length ks) (all_read_more (take i flows) (f ∷ []))
-    ∙ length-append (all_read (take i flows)) (all_read (f ∷ []))
-    ∙ ap (λ n. length (all_read (take i flows)) + n) (length-append (arrays_in f.formula) [] ∙ zeroed (length (arrays_in f.formula)))
-  where
-    zeroed : (n : ℕ) → n + length {A = ℕ} [] ≡ n
-    zeroed n = omega arith
 
 -- the arrays that one formula reads are there where all are
 pub reads_at : (w : World) (flows : Flows) (i : ℕ) (f : Flow) → AreLive w (all_read flows) → i < length flows → f ≡ get_or flows i f → AreLive w (arrays_in f.formula)

@@ -24,12 +24,6 @@ pub named_fault : {A E : Type 0} (name : E → Fault) (wanted : Result A E) (rea
 named_fault name wanted None h = tt
 named_fault name wanted (Some e) h = ap (or_named name) h
 
--- also where something else would come of it
-pub named_first : {A B E : Type 0} (name : E → Fault) (wanted : Result A E) (next : A → Result B Fault) (reason : Option E) → IfSome reason (λ e. wanted ≡ Err e)
-    → IsFault (and_then (or_named name wanted) next) (scope_fault (option_map name reason))
-named_first name wanted next None h = tt
-named_first name wanted next (Some e) h = ap (λ x. and_then (or_named name x) next) h
-
 -- no new array comes of a fault
 pub not_made : (wanted : Result Made Fault) (a : Arrays) (e : ScopeFault) → IsFault wanted e → IsFault (and_then wanted (new_root a)) e
 not_made wanted a (fault.Script e) h = ap (λ x. and_then x (new_root a)) h

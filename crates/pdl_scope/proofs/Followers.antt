@@ -4,7 +4,7 @@ use Rattle.std.specs.Prelude.{◌==◌, ◌||◌, if◌then◌else◌, IsSomeAnd
 use Rattle.std.specs.List.{list_any}
 use Rattle.std.specs.Option.{option_map_or}
 use Rattle.std.proofs.lemmas.List.{drop_more}
-use Rattle.std.proofs.lemmas.List.Elements.{All-nil, All-cons}
+use Rattle.std.proofs.lemmas.List.Elements.{All-nil, All-cons, All-head, All-tail, All-weaker}
 use Rattle.pdl_lemmas.specs.Tests.{by_test}
 use Rattle.pdl_elem.specs.declared.Ty.{Ty}
 use Rattle.pdl_elem.specs.declared.Ty.TheVariants.{Byte}
@@ -29,7 +29,6 @@ use Rattle.pdl_machine.specs.DumpableLaws.{ShownAreMade}
 use Rattle.pdl_machine.specs.Flows.{Flow, Flows, is_flow, reads_from, affected}
 use Rattle.pdl_machine.specs.Following.{given, follow, AreOlder, IsFlow, RootsAbove, AreFlows}
 use Rattle.pdl_machine.specs.State.{AreLive}
-use Rattle.pdl_scope.specs.Plans.{input_at}
 
 -- ---- which flows follow
 
@@ -49,11 +48,9 @@ affected_same w u (f ∷ flows) rs qs roots same =
     ∙ ap (λ (fs : Flows). if reads_from u f qs then f ∷ fs else affected w flows rs) (affected_same w u flows (f.root ∷ rs) (f.root ∷ qs) roots (λ r. ap (λ b. (f.root == r) || b) (same r)))
     ∙ ap (λ (fs : Flows). if reads_from u f qs then f ∷ affected u flows (f.root ∷ qs) else fs) (affected_same w u flows rs qs roots same)
 
-or_swap : (a b : Bool) → (a || b) ≡ (b || a)
-or_swap true true = refl
-or_swap true false = refl
-or_swap false true = refl
-or_swap false false = refl
+-- no array of another root is among those of one root
+pub not_root : (r q : ℕ) → q ≢ r → is_listed (r ∷ []) q ≡ false
+not_root r q other = by_test (r == q) (λ same. absurd (other (sym (eqb-true r q same)))) (λ not. rw not refl)
 
 -- the last root stands as well at the head
 pub listed_last : (rs : List ℕ) (q r : ℕ) → is_listed (rs ++ q ∷ []) r ≡ is_listed (q ∷ rs) r
@@ -148,15 +145,6 @@ formed laws a b f h looks = by_value (meaning (array_in b) f.formula)
 
 -- ---- a formula's inputs
 
-abbrev some_made : Made → Option Made
-some_made m = Some m
-
-input_found : (b : Arrays) (ks : List ℕ) (k : ℕ) → is_listed ks k ≡ true → input_of (map (input_at b) ks) k ≡ Some (array_in b k)
-input_found b [] k t = cc
-input_found b (j ∷ ks) k t = by_test (j == k)
-    (λ same. rw same (ap (λ i. some_made (array_in b i)) (eqb-true j k same)))
-    (λ other. let rest : is_listed ks k ≡ true = rw other at t in rw other (input_found b ks k rest))
-
 listed_more : (j k : ℕ) (ks : List ℕ) → is_listed ks k ≡ true → is_listed (j ∷ ks) k ≡ true
 listed_more j k ks t = by_test (j == k) (λ same. rw same refl) (λ other. rw other t)
 
@@ -173,21 +161,33 @@ live_listed w (j ∷ ks) k live t = by_test (j == k)
     (λ same. subst (IsLive w) (eqb-true j k same) live.0)
     (λ other. let rest : is_listed ks k ≡ true = rw other at t in live_listed w ks k live.1 rest)
 
+listed_all : (P : ℕ → Type 0) (ks : List ℕ) → All P ks → (k : ℕ) → is_listed ks k ≡ true → P k
+listed_all P [] all k t = cc
+listed_all P (j ∷ ks) all k t = by_test (j == k)
+    (λ same. subst P (eqb-true j k same) (All-head P j ks all))
+    (λ other. let rest : is_listed ks k ≡ true = rw other at t in listed_all P ks (All-tail P j ks all) k rest)
+
+-- these arrays have inputs, each of what its array shows
+abbrev pub ShowAll : Arrays → List Input → List ℕ → Type 0
+ShowAll b is ks = All (λ k. input_of is k ≡ Some (array_in b k)) ks
+
+-- the same inputs are those of the same arrays
+pub inputs_show : (b : Arrays) (is js : List Input) (ks qs : List ℕ) → js ≡ is → ks ≡ qs → ShowAll b is ks → ShowAll b js qs
+inputs_show b is js ks qs same alike h =
+    subst (λ (xs : List Input). ShowAll b xs qs) (sym same) (subst (ShowAll b is) alike h)
+
 -- each array that the formula reads has an input, which is what it shows
-pub are_inputs : ShownAreMade → (b : Arrays) (f : Flow) (inputs : List Input) → IsSound b.world → AreLive b.world (arrays_in f.formula) → inputs ≡ map (input_at b) (arrays_in f.formula) → AreInputs inputs f.formula
+pub are_inputs : ShownAreMade → (b : Arrays) (f : Flow) (inputs : List Input) → IsSound b.world → AreLive b.world (arrays_in f.formula) → ShowAll b inputs (arrays_in f.formula) → AreInputs inputs f.formula
 are_inputs shown b f inputs sound live is =
-    subst (λ (xs : List Input). AreInputs xs f.formula) (sym is)
-    (all_listed (λ k. IsSomeAnd (input_of (map (input_at b) (arrays_in f.formula)) k) IsArray) (arrays_in f.formula)
-    (λ k t. subst (λ (o : Option Made). IsSomeAnd o IsArray) (sym (input_found b (arrays_in f.formula) k t))
-    (shown b.world k sound (live_listed b.world (arrays_in f.formula) k live t)).1))
+    all_listed (λ k. IsSomeAnd (input_of inputs k) IsArray) (arrays_in f.formula)
+    (λ k t. subst (λ (o : Option Made). IsSomeAnd o IsArray) (sym (listed_all (λ j. input_of inputs j ≡ Some (array_in b j)) (arrays_in f.formula) is k t))
+    (shown b.world k sound (live_listed b.world (arrays_in f.formula) k live t)).1)
 
 -- so the formula is of them what it is of the arrays
-pub of_inputs : MeaningLaws → (b : Arrays) (f : Flow) (inputs : List Input) → inputs ≡ map (input_at b) (arrays_in f.formula) → meaning (value_in inputs) f.formula ≡ meaning (array_in b) f.formula
+pub of_inputs : MeaningLaws → (b : Arrays) (f : Flow) (inputs : List Input) → ShowAll b inputs (arrays_in f.formula) → meaning (value_in inputs) f.formula ≡ meaning (array_in b) f.formula
 of_inputs laws b f inputs is =
-    ap (λ (xs : List Input). meaning (value_in xs) f.formula) is
-    ∙ laws.same (value_in (map (input_at b) (arrays_in f.formula))) (array_in b) f.formula
-    (all_listed (λ k. value_in (map (input_at b) (arrays_in f.formula)) k ≡ array_in b k) (arrays_in f.formula)
-    (λ k t. ap made_or (input_found b (arrays_in f.formula) k t)))
+    laws.same (value_in inputs) (array_in b) f.formula
+    (All-weaker (λ k. input_of inputs k ≡ Some (array_in b k)) (λ k. value_in inputs k ≡ array_in b k) (λ k same. ap made_or same) (arrays_in f.formula) is)
 
 -- a flow follows by the elements of what its formula is
 pub follows_by : (b : Arrays) (f : Flow) (m : Made) (es : List ℤ) → meaning (array_in b) f.formula ≡ Ok m → es ≡ m.elems → follow b f ≡ record b { world = assign b.world f.root es }

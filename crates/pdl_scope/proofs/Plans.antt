@@ -1,6 +1,6 @@
 -- Assignments to different roots one after another: what is seen after them.
 use Rattle.std.proofs.Common.{◌≡◌, ℕ, zero, suc, ◌+◌, ◌<◌, ℤ, List, [], ◌∷◌, ◌++◌, length, map, Bool, true, false, Option, Some, None, arith, refl, sym, ap, subst, ◌∙◌, eqb-true, eq-eqb}
-use Rattle.std.specs.Prelude.{◌==◌, if◌then◌else◌, IsSomeAnd}
+use Rattle.std.specs.Prelude.{◌==◌, if◌then◌else◌, IsSomeAnd, is_some, option_map}
 use Rattle.std.specs.List.{range_with_len}
 use Rattle.std.proofs.lemmas.List.{length-map}
 use Rattle.std.proofs.lemmas.List.FromFn.{length-range_with_len}
@@ -196,6 +196,16 @@ found_change e cs r c h is = among cs h.foretold.apart h.foretold.each h.can is
     among (b ∷ ds) apart each can at = by_test (b.root == r)
         (λ same. let found : Some b ≡ Some c = rw same at at in subst (IsChange e) (some_same b c found) (record { root = apart.0; foretells = each.1; can = can.0 }))
         (λ other. let rest : change_to ds r ≡ Some c = rw other at at in among ds apart.2 each.2 can.1 rest)
+
+-- a root is among those that are altered where an assignment is to it
+pub altered_found : (cs : List Change) (r : ℕ) → is_some (change_to cs r) ≡ is_listed (roots_in cs) r
+altered_found [] r = refl
+altered_found (c ∷ cs) r = by_test (c.root == r) (λ same. rw same refl) (λ other. rw other (altered_found cs r))
+
+-- what there is, seen otherwise, is there
+pub some_seen : {A B : Type 0} (seen : A → B) (o : Option A) → is_some (option_map seen o) ≡ is_some o
+some_seen seen (Some a) = refl
+some_seen seen None = refl
 
 -- each position of a root is its own place
 among_later : (i a n : ℕ) → i < a → is_among i (map Some (range_with_len a n)) ≡ false

@@ -19,7 +19,7 @@ use Rattle.pdl_machine.specs.Step.{Stepped, bind_value, bound, roots_bound}
 use Rattle.pdl_machine.specs.Then.{and_then}
 use Rattle.pdl_scope.specs.declared.fault.ScopeFault.{ScopeFault}
 use Rattle.pdl_scope.specs.declared.fault.ScopeFault.TheVariants.{Script, NoMemory}
-use Rattle.pdl_scope.specs.Answers.{IsFault, Prints, Runs}
+use Rattle.pdl_scope.specs.Answers.{IsFault, Runs}
 use Rattle.pdl_scope.specs.Room.{with_names, is_among, new_among, has_room}
 use Rattle.pdl_scope.specs.Scope.{Scope, Grows}
 use Rattle.pdl_scope.proofs.Bindings.{length_after}
@@ -202,10 +202,6 @@ value_is : (s mid : State) (x : List ℕ) (m : Made) (id : ℕ) → IsNext s mid
 value_is s mid x m id next =
     let B : Names → Watches → Flows → Stepped = λ names ws fs. and_then (bind names x id) (λ after. Ok (record { names = after; arrays = mid.arrays; watches = ws; flows = fs }, [])) in
     ap (bound s x) next.made ∙ ap (λ names. B names s.watches s.flows) (sym next.named) ∙ ap (λ ws. B mid.names ws s.flows) (sym next.watched) ∙ ap (B mid.names mid.watches) (sym next.flowing) ∙ binds s mid x m id next
-
--- the state is that with the name
-pub bound_so : (s mid new : State) (x : List ℕ) (m : Made) (id : ℕ) → IsNext s mid x m id → Prints (bind_value mid x (mid.arrays, id)) new [] [] → new ≡ with_bound mid x id
-bound_so s mid new x m id next h = let P : Stepped → Type 0 = λ r. Prints r new [] [] in (subst P (binds s mid x m id next) h).0
 
 -- what can't be refused has no fault but `NoMemory`, which keeps all as it was but for new arrays
 pub never_refused : {A T : Type 0} (a : A) (wanted : Stepped) (old new : Scope) (r : Result T ScopeFault) (f : ScopeFault) → IsErrAnd r (λ e. e ≡ f) → IsFault (Ok a) f → Grows old new → Runs wanted old new [] [] r

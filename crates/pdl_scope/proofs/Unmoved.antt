@@ -13,14 +13,6 @@ use Rattle.pdl_scope.specs.Holding.{SameButHolds}
 use Rattle.pdl_scope.specs.declared.fault.ScopeFault.{ScopeFault}
 use Rattle.pdl_scope.specs.declared.fault.ScopeFault.TheVariants.{Script, NoMemory}
 
--- an engine that holds other arrays moves nothing
-pub holds_alone : (e t : Engine) (before after : ℕ) → SameButHolds e t → after ≡ before → MovesNothing e t before after
-holds_alone e t before after same steps = record {
-  unmoved = steps;
-  fresh = ap (λ (x : Engine). x.fresh) same;
-  pending = ap (λ (x : Engine). x.pending) same;
-}
-
 -- also once nothing was moved before
 pub nothing_then_holds : (e t n : Engine) (before after : ℕ) → MovesNothing e t before after → SameButHolds t n → MovesNothing e n before after
 nothing_then_holds e t n before after m same = record {
@@ -42,12 +34,6 @@ pub unbroken : {T : Type 0} (r : Result T RelayFault) (e t n : Engine) (before a
     → IfErr r (λ f. f ≡ relay.Breaks → MovesNothing e n before after)
 unbroken (Ok x) e t n before after same h = tt
 unbroken (Err f) e t n before after same h = λ is. unchanged_held e t n before after same (h is).0 (h is).1
-
--- out of memory is no fault of the script
-pub no_memory : {T : Type 0} (P : Type 0) (r : Result T ScopeFault) → IsErrAnd r (λ e. e ≡ NoMemory) → IfScript r P
-no_memory P (Ok x) is = tt
-no_memory P (Err (Script f)) is = absurd (cc)
-no_memory P (Err NoMemory) is = tt
 
 -- nor is it that of a reshape
 pub relaid : {T : Type 0} (P : Type 0) (r : Result T ScopeFault) (f : RelayFault) → IsErrAnd r (λ e. e ≡ of_reshape f) → (f ≡ relay.Breaks → P) → IfScript r P

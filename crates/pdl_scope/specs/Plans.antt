@@ -1,6 +1,7 @@
 -- Assignments that will be made one after another, each to another root: that of a statement, and
 -- those by which flows follow it.
-use Rattle.std.specs.Prelude.{◌≡◌, ℕ, ℤ, ◌==◌, if◌then◌else◌, Bool, true, false, List, [], ◌∷◌, map, Option, Some, None, IfSome}
+use Rattle.std.specs.Prelude.{◌≡◌, ℕ, ℤ, ◌==◌, if◌then◌else◌, Bool, true, false, List, [], ◌∷◌, map, Option, Some, None, IfSome, is_some}
+use Rattle.pdl_flow.specs.Inputs.{input_of}
 use Rattle.pdl_flow.specs.declared.formula.Input.{Input}
 use Rattle.pdl_world.specs.Paths.{root_of}
 use Rattle.pdl_world.specs.Sound.{IsLive}
@@ -9,7 +10,7 @@ use Rattle.pdl_world.specs.World.{World, assign}
 use Rattle.pdl_engine.specs.Foresights.{Foretells}
 use Rattle.pdl_engine.specs.State.{State as Engine}
 use Rattle.pdl_machine.specs.Arrays.{Arrays, array_in}
-use Rattle.pdl_machine.specs.Flows.{Flows, affected, is_flow}
+use Rattle.pdl_machine.specs.Flows.{Flows, followers, is_flow}
 use Rattle.pdl_machine.specs.Following.{followed}
 use Rattle.pdl_scope.specs.Assigning.{CanAssign}
 use Rattle.pdl_scope.specs.Scope.{arrays_of}
@@ -43,7 +44,7 @@ AreApart w (c ∷ cs) =
 abbrev pub IsForetold : World → Change → Type 0
 IsForetold w c = IfSome c.foresight (Foretells w c.target c.values.items)
 
--- each is to an array that is there, and tells so
+-- each is to an array that is there, and tells what it will write, where that is found
 abbrev pub AllForetell : World → List Change → Type 0
 AllForetell w [] = Unit {0}
 AllForetell w (c ∷ cs) = IsLive w c.target × IsForetold w c × AllForetell w cs
@@ -82,8 +83,8 @@ pub record IsPlan (old : Engine) (flows : Flows) (v : ℕ) (vs : List ℤ) (new 
   pub made : ArePlanned new cs
   pub follows : planned (arrays_of old) cs
       ≡ followed (record (arrays_of old) { world = assign old.world v vs })
-      (affected old.world flows (root_of old.world v ∷ []))
-  pub alone : affected old.world flows (root_of old.world v ∷ []) ≡ [] → rest ≡ []
+      (followers old.world flows v)
+  pub alone : followers old.world flows v ≡ [] → rest ≡ []
 
 -- no flow's root is altered
 abbrev pub NoFlowIn : List Change → Flows → Type 0
@@ -92,3 +93,11 @@ NoFlowIn cs flows = (r : ℕ) → is_flow flows r ≡ true → is_listed (roots_
 -- an array with what it shows, as a formula's input
 abbrev pub input_at : Arrays → ℕ → Input
 input_at a k = record { array = k; value = array_in a k }
+
+-- each input is of what its array shows
+abbrev pub AreShown : Arrays → List Input → Type 0
+AreShown a is = (k : ℕ) → IfSome (input_of is k) (λ m. m ≡ array_in a k)
+
+-- what has an input has one still
+abbrev pub KeepInputs : (old new : List Input) → Type 0
+KeepInputs old new = (k : ℕ) → is_some (input_of old k) ≡ true → is_some (input_of new k) ≡ true

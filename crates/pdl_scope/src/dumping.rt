@@ -133,7 +133,7 @@ fn all_numbers(alloc: Global, engine: &Engine) -> Result<Vec<ArrayId>, AllocErro
 {
     growth_laws();
     newest_laws();
-    let mut ids = Vec::new(alloc);
+    let mut ids = Vec::with_capacity(alloc, engine.live() as usize)?;
     let mut next = engine.next_live(None);
     while let Some(id) = next {
         ids.push(id)?;

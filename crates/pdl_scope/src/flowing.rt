@@ -167,7 +167,8 @@ fn note_arrays(formula: &Formula, list: &mut Vec<ArrayId>) -> Result<(), AllocEr
 
 /// Whether formulas may name arrays so many times more.
 fn reads_fit(flows: &[KeptFlow], more: usize) -> bool
-    ensures { result ≡ true → length (all_read flows.now) + more ≤ reads_limit }
+    ensures fit { result ≡ true → length (all_read flows.now) + more ≤ reads_limit }
+    ensures over { result ≡ false → reads_limit < length (all_read flows.now) + more }
 {
     let mut count = more;
     for flow in flows {

@@ -1,22 +1,24 @@
 //! What flows make of an assignment: a plan of assignments to different roots, each found before
 //! one of them is made (PDL::Dataflow).
-ghost use Rattle.std.specs.Prelude.{◌≡◌, ◌≢◌, None, ◌+◌, ◌≤◌, ◌∷◌, ◌++◌, [], true, false, List, IfOk, IfSome, OnOk, length, map, option_map, sum_by};
+ghost use Rattle.std.specs.Prelude.{◌≡◌, ◌≢◌, None, Some, ◌+◌, ◌≤◌, ◌∷◌, ◌++◌, [], true, false, List, All, IfOk, IfSome, OnOk, is_some, length, option_map, sum_by};
 ghost use Rattle.pdl_buf.specs.Made.{IsMade};
 ghost use Rattle.pdl_ops.specs.Answers.{refusal_named};
 ghost use Rattle.pdl_flow.specs.Formula.{arrays_in};
+ghost use Rattle.pdl_flow.specs.Inputs.{input_of};
 ghost use Rattle.pdl_world.specs.Paths.{root_of};
 ghost use Rattle.pdl_world.specs.Sound.{IsLive, IsSound};
 ghost use Rattle.pdl_world.specs.Swept.{is_listed};
 ghost use Rattle.pdl_world.specs.World.{assign, dims_in, elements, ty_in};
 ghost use Rattle.pdl_engine.specs.Foresights.{Foretells, IsForeseen};
 ghost use Rattle.pdl_engine.specs.Reading.{IsWarm, read_steps};
-ghost use Rattle.pdl_engine.specs.State.{SameArrays, StayFresh, is_fresh};
+ghost use Rattle.pdl_engine.specs.State.{SameArrays, StayFresh};
+ghost use Rattle.pdl_machine.specs.Arrays.{array_in};
 ghost use Rattle.pdl_machine.specs.Flows.{affected, reads_from};
 ghost use Rattle.pdl_machine.specs.Following.{AreFlows, IsFlow, follow, followed};
 ghost use Rattle.pdl_machine.specs.State.{AreLive};
 ghost use Rattle.pdl_watch.specs.Slots.{StartsWith};
 ghost use Rattle.pdl_scope.specs.Assigning.{CanAssign};
-ghost use Rattle.pdl_scope.specs.Plans.{AllCanAssign, AreApart, ArePlanned, IsChange, NoFlowIn, all_assigned, change_to, input_at, planned, roots_in};
+ghost use Rattle.pdl_scope.specs.Plans.{AllCanAssign, AreApart, ArePlanned, AreShown, IsChange, KeepInputs, NoFlowIn, all_assigned, change_to, input_at, planned, roots_in};
 ghost use Rattle.pdl_scope.specs.Scope.{arrays_of};
 ghost use Rattle.pdl_scope.specs.declared.following.Change.{Change};
 
@@ -24,7 +26,7 @@ use crate::flows::KeptFlow;
 use crate::reading::ready;
 use pdl_buf::Steps;
 use pdl_engine::{ArrayId, Engine, Foreseen, Foresight};
-use pdl_flow::{Input, evaluate, meaning_laws};
+use pdl_flow::{Input, evaluate, has_input, meaning_laws};
 use pdl_machine::dumpable_laws;
 use pdl_ops::OpFault;
 use pdl_shape::elements_of;
@@ -128,21 +130,47 @@ pub(crate) fn find_change(plan: &[Change], root: ArrayId) -> Option<&Change>
 fn is_altered(plan: &[Change], root: ArrayId) -> bool
     ensures { result ≡ is_listed (roots_in plan.now) root }
 {
-    for change in plan {
-        if change.root == root {
-            return true;
-        }
+    find_change(plan, root).is_some()
+}
+
+/// Whether an array is the one that is noted.
+fn is_noted(noted: Option<ArrayId>, id: ArrayId) -> bool
+    ensures { result ≡ true → noted ≡ Some id }
+{
+    match noted {
+        Some(known) => known == id,
+        None => false,
     }
+}
+
+/// Whether an array has a root. An array that has another one is noted, and isn't looked up where it
+/// is asked about again.
+fn has_root(engine: &Engine, id: ArrayId, root: ArrayId, apart: &mut Option<ArrayId>) -> bool
+    requires live { IsLive engine.now.world id }
+    requires apart { IfSome apart.old (λ k. root_of engine.now.world k ≢ root) }
+    ensures has { result ≡ is_listed (root ∷ []) (root_of engine.now.world id) }
+    ensures apart { IfSome apart.new (λ k. root_of engine.now.world k ≢ root) }
+{
+    if is_noted(*apart, id) {
+        return false;
+    }
+    if engine.root(id) == root {
+        return true;
+    }
+    *apart = Some(id);
     false
 }
 
-/// Whether a flow's formula reads an array of a root.
-fn reads_root(engine: &Engine, flow: &KeptFlow, root: ArrayId) -> bool
-    requires { AreLive engine.now.world (arrays_in flow.now.formula) }
-    ensures { result ≡ reads_from engine.now.world flow.now (root ∷ []) }
+/// Whether a flow's formula reads an array of a root. The array that was last found to have another
+/// one is noted.
+fn reads_root(engine: &Engine, flow: &KeptFlow, root: ArrayId, apart: &mut Option<ArrayId>) -> bool
+    requires live { AreLive engine.now.world (arrays_in flow.now.formula) }
+    requires apart { IfSome apart.old (λ k. root_of engine.now.world k ≢ root) }
+    ensures reads { result ≡ reads_from engine.now.world flow.now (root ∷ []) }
+    ensures apart { IfSome apart.new (λ k. root_of engine.now.world k ≢ root) }
 {
     for read in flow.reads() {
-        if engine.root(*read) == root {
+        if has_root(engine, *read, root, apart) {
             return true;
         }
     }
@@ -162,14 +190,16 @@ fn reads_changed(engine: &Engine, flow: &KeptFlow, plan: &[Change]) -> bool
     false
 }
 
-/// Whether an assignment to an array of a root has flows follow it.
+/// Whether an assignment to an array of a root has flows follow it. An array that many flows read one
+/// after another is looked up once.
 pub(crate) fn is_followed(engine: &Engine, flows: &[KeptFlow], root: ArrayId) -> bool
     requires { AreFlows (arrays_of engine.now) flows.now }
     ensures followed { result ≡ true → affected engine.now.world flows.now (root ∷ []) ≢ [] }
     ensures alone { result ≡ false → affected engine.now.world flows.now (root ∷ []) ≡ [] }
 {
+    let mut apart = None;
     for flow in flows {
-        if reads_root(engine, flow, root) {
+        if reads_root(engine, flow, root, &mut apart) {
             return true;
         }
     }
@@ -258,7 +288,36 @@ fn input_planned<L: Ledger>(
     }
 }
 
-/// What these arrays show after the assignments of a plan, as inputs of a formula.
+/// Adds to inputs of a formula what an array shows after the assignments of a plan, unless the array
+/// has an input.
+fn add_input<L: Ledger>(
+    alloc: Global,
+    engine: &mut Engine,
+    plan: &[Change],
+    id: ArrayId,
+    inputs: &mut Vec<Input>,
+    steps: &mut Steps<L>,
+) -> Result<(), AllocError>
+    requires live { IsLive engine.old.world id }
+    requires plan { ArePlanned engine.old plan.now }
+    requires shown { AreShown (planned (arrays_of engine.old) plan.now) inputs.old.items }
+    ensures shown { let after = planned (arrays_of engine.old) plan.now in
+        OnOk result (AreShown after inputs.new.items) }
+    ensures here { OnOk result (is_some (input_of inputs.new.items id) ≡ true) }
+    ensures kept { OnOk result (KeepInputs inputs.old.items inputs.new.items) }
+    ensures same { SameArrays engine.old engine.new }
+    ensures stay { StayFresh engine.old engine.new }
+{
+    if has_input(inputs, id) {
+        return Ok(());
+    }
+    let input = input_planned(alloc, engine, plan, id, steps)?;
+    inputs.push(input)?;
+    Ok(())
+}
+
+/// What these arrays show after the assignments of a plan, as inputs of a formula: one for each of
+/// them, however often it stands there.
 fn inputs_planned<L: Ledger>(
     alloc: Global,
     engine: &mut Engine,
@@ -269,14 +328,13 @@ fn inputs_planned<L: Ledger>(
     requires live { AreLive engine.old.world reads.now }
     requires plan { ArePlanned engine.old plan.now }
     ensures inputs { let after = planned (arrays_of engine.old) plan.now in
-        IfOk result (λ is. is.items ≡ map (input_at after) reads.now) }
+        IfOk result (λ is. All (λ k. input_of is.items k ≡ Some (array_in after k)) reads.now) }
     ensures same { SameArrays engine.old engine.new }
     ensures stay { StayFresh engine.old engine.new }
 {
     let mut inputs = Vec::with_capacity(alloc, reads.len())?;
     for read in reads {
-        let input = input_planned(alloc, engine, plan, *read, steps)?;
-        inputs.push(input)?;
+        add_input(alloc, engine, plan, *read, &mut inputs, steps)?;
     }
     Ok(inputs)
 }
@@ -310,7 +368,7 @@ fn elements_of_flow<L: Ledger, M: Ledger>(
     engine.resting_law();
     let inputs = inputs_planned(alloc, engine, plan, flow.reads(), steps)?;
     match evaluate(alloc, flow.formula(), &inputs, steps, runs) {
-        Ok(made) => made.elems.to_vec(alloc),
+        Ok(made) => made.elems.into_vec(alloc),
         Err(fault) => Err(out_of_memory(fault)),
     }
 }

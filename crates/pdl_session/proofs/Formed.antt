@@ -43,9 +43,8 @@ use Rattle.pdl_session.specs.Came.{evaluated, flow_came, parts_left}
 use Rattle.pdl_session.specs.Costs.{EvaluatesWithin, named_steps}
 use Rattle.pdl_session.specs.Moves.{MovesUpTo}
 use Rattle.pdl_session.proofs.Expressions.{read_le_ready}
-use Rattle.pdl_session.proofs.Moves.{came_up_to, given_refused, stepped_new, stepped_refused}
+use Rattle.pdl_session.proofs.Moves.{came_up_to, stepped_new, stepped_refused}
 use Rattle.pdl_engine.specs.Reading.{read_steps}
-use Rattle.pdl_engine.specs.State.{ready_steps}
 use Rattle.pdl_numbers.specs.Typed.{count_moved}
 use Rattle.pdl_session.specs.Flowing.{Forms}
 use Rattle.pdl_session.proofs.Facts.{first_fault, state_is}
@@ -99,12 +98,6 @@ runs_flow r old mid new x e v f value_is formula_is g h =
     ap (λ (y : Valued). and_then y (flowing (machine old) x e)) value_is ∙ ap (formed (machine old) x (mid.arrays, v)) formula_is ∙ ap next (sym (state_is old mid g)) in
     runs_from r (next (machine mid)) (effect [] (machine old) (flow x e)) old mid new [] [] is g h
 
--- a formula that is refused
-pub flow_refused : (old mid : Scope) (x : List ℕ) (e : Tree) (v : ℕ) (fault : ScopeFault) → value_of old.names old.arrays e ≡ Ok (mid.arrays, v) → IsFault (formula_of old.names e) fault → IsFault (effect [] (machine old) (flow x e)) fault
-flow_refused old mid x e v fault value_is h =
-    subst (λ (y : Valued). IsFault (and_then y (flowing (machine old) x e)) fault) (sym value_is)
-    (first_fault (formula_of old.names e) (λ f. bound (begun (machine old) mid.arrays f) x (new_root mid.arrays (array_in mid.arrays v))) fault h)
-
 -- ---- what it moves
 
 new_arrays : (x : Result Names Fault) (s new : State) (v : Arrays × ℕ) → Prints (and_then x (λ names. Ok (record s { names = names; arrays = v.0 }, []))) new [] [] → new.arrays ≡ v.0
@@ -117,13 +110,6 @@ pub flow_unmade : {T : Type 0} (r : Result T ScopeFault) (f : ScopeFault) (old m
 flow_unmade r f old mid x e before after v is valued fault h =
     stepped_refused r f (effect [] (machine old) (flow x e)) (named_steps old e) old (evaluated old.names old.arrays e) before after is fault
     (came_up_to r (named_steps old e) old (value_of old.names old.arrays e) (parts_left old.names old.arrays e) mid.arrays before after v valued h)
-
--- the value is refused
-pub flow_unvalued : {T : Type 0} (r : Result T ScopeFault) (f : ScopeFault) (old new : Scope) (x : List ℕ) (e : Tree) (before after : ℕ) → IsErrAnd r (λ g. g ≡ f) → IsFault (value_of old.names old.arrays e) f
-    → EvaluatesWithin (named_steps old e) old new (parts_left old.names old.arrays e) before after (Err f) → MovesUpTo (named_steps old e) old (flow_came old x e) before after r
-flow_unvalued r f old new x e before after is fault h =
-    stepped_refused r f (effect [] (machine old) (flow x e)) (named_steps old e) old (evaluated old.names old.arrays e) before after is (first_fault (value_of old.names old.arrays e) (flowing (machine old) x e) f fault)
-    (given_refused r f old new (value_of old.names old.arrays e) (parts_left old.names old.arrays e) (ready_steps (engine_of new)) (named_steps old e) (named_steps old e) before after is fault (omega arith) h)
 
 -- the elements of the root are among those that came
 pub flowing_within : {T : Type 0} (r : Result T ScopeFault) → NewRootsMoveTheirSize → (old mid new : Scope) (x : List ℕ) (e : Tree) (f : FormulaTree) (before now after v : ℕ) → value_of old.names old.arrays e ≡ Ok (mid.arrays, v)

@@ -163,16 +163,6 @@ abbrev second_of : Option (Option ℕ × Option ℕ) → Option ℕ
 second_of None = None
 second_of (Some p) = p.1
 
-pub few_one : (f : ℕ → ℕ) (given : List Given) (v : ℕ) → few_arrays given ≡ Some (Some v, None) → f v ≤ all_steps f given
-few_one f [] v is = (let no : None ≡ Some v = ap first_of is in absurd (cc))
-few_one f (Array x ∷ []) v is = (let some : Some x ≡ Some v = ap first_of is in let same : x ≡ v = cc in let a : f x ≡ f v = ap f same in omega (arith, a))
-few_one f (Array x ∷ Array y ∷ []) v is = (let no : Some y ≡ None = ap second_of is in absurd (cc))
-few_one f (Array x ∷ Array y ∷ z ∷ more) v is = absurd (cc)
-few_one f (Array x ∷ Text t ∷ more) v is = absurd (cc)
-few_one f (Array x ∷ OfType ty ∷ more) v is = absurd (cc)
-few_one f (Text t ∷ more) v is = absurd (cc)
-few_one f (OfType ty ∷ more) v is = absurd (cc)
-
 pub few_two : (f : ℕ → ℕ) (given : List Given) (v u : ℕ) → few_arrays given ≡ Some (Some v, Some u) → f v + f u ≤ all_steps f given
 few_two f [] v u is = (let no : None ≡ Some v = ap first_of is in absurd (cc))
 few_two f (Array x ∷ []) v u is = (let no : None ≡ Some u = ap second_of is in absurd (cc))

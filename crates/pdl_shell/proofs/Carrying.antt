@@ -4,6 +4,7 @@ use Rattle.std.specs.Prelude.{OnOk, IfErr}
 use Rattle.std.specs.Result.{IsErrAnd}
 use Rattle.std.proofs.lemmas.List.{map-append, take-append-drop}
 use Rattle.std.proofs.lemmas.List.Sums.{sum_by-append}
+use Rattle.pdl_lemmas.specs.KnownBytes.{appends_kept}
 use Rattle.pdl_lex.specs.Bytes.{newlines, is_newline}
 use Rattle.pdl_lex.specs.Pieces.{State, Mark, statement, script_too_long, to_come, settled_from}
 use Rattle.pdl_lex.specs.declared.Piece.{Piece}
@@ -24,7 +25,7 @@ use Rattle.pdl_shell.specs.CourseLaws.{Laws}
 use Rattle.pdl_shell.specs.Course.{Stands, Runs, RunsShort, Carries, StopsShort, Finishes, FinishesShort, Ends}
 use Rattle.pdl_shell.proofs.SlotsHeard.{counts_then, counts_ended, one_rose}
 use Rattle.pdl_shell.proofs.Refusing.{later_refl, later_then, later_same, foretold, foretells_all}
-use Rattle.pdl_shell.proofs.Taking.{appends_kept, is_prefix-refl}
+use Rattle.pdl_shell.proofs.Taking.{is_prefix-refl}
 use Rattle.pdl_shell.proofs.Following.{after_marks-cons, short_marks, short_stands, counts_follow, heard_follows, sink_fails}
 
 -- what follows where there is no error, and where there is one
@@ -218,10 +219,6 @@ carries_then a b c bytes mid rest oa ob oc one two = record {
       let q = two.on terms first p.0 fore p.1 in
       (q.0, q.1, λ follows more. p.2 follows more ∙ q.2 follows more);
 }
-
--- no byte is run over
-pub carries_nothing : (a : Runner) (bytes : List ℕ) (out : Outlets) → Carries bytes a out bytes a out
-carries_nothing a bytes out = record { later = later_refl a; on = λ terms first run fore s. (run, s, λ follows more. refl) }
 
 -- once a statement that wasn't run has ended the run, the bytes that are left don't count
 pub carries_ended : Laws → (a b : Runner) (bytes rest : List ℕ) (oa ob : Outlets)

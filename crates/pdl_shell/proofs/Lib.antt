@@ -9,8 +9,8 @@ pub mod Following
 pub mod Carrying
 pub mod Parts
 pub mod Plain
-pub mod Whole
 pub mod HeadlineLemmas
+pub mod Whole
 pub mod Guards
 pub mod HeadlineSlotsLemmas
 mod WorkedRuns

@@ -8,6 +8,7 @@ use Rattle.std.proofs.lemmas.Bool.{ltb-true, ltb-false, lt-ltb, le-ltb, both_way
 use Rattle.std.proofs.lemmas.List.{take_all, take-append-le, take-take, length-take, length-take-le}
 use Rattle.std.proofs.Math.Seq.{take-append-add}
 use Rattle.std.specs.Io.KnownBytes.{Consumes, Keeps, IsAtEnd}
+use Rattle.pdl_io.specs.Told.{KeepsTelling}
 use Rattle.pdl_lemmas.specs.Tests.{by_lt}
 use Rattle.pdl_lex.specs.Limits.{script_limit}
 use Rattle.pdl_lex.specs.Pieces.{statement, settled, settled_from, script_marks}
@@ -20,10 +21,11 @@ use Rattle.pdl_shell.specs.declared.stop.Stop.TheVariants.{Source, Sink, Watcher
 use Rattle.pdl_shell.specs.declared.status.Status.TheVariants.{SourceFault}
 use Rattle.pdl_shell.specs.Limits.{read_limit}
 use Rattle.pdl_shell.specs.Outside.{Outlets, Outside, NoneFailed}
-use Rattle.pdl_shell.specs.Answers.{IsShort, HasReason, TakesAtMost, ending_of_run, status_at_end, status_after, status_of_stop}
+use Rattle.pdl_shell.specs.Answers.{IsShort, HasReason, TakesAtMost, ending_of_run, ending_on, status_at_end, status_after, status_of_stop}
 use Rattle.pdl_shell.specs.Stops.{Fails, HasCauses, Leaves}
 use Rattle.pdl_shell.specs.Pace.{Behind, end_of_input, past_limit, unknown, behind, marks_left, outcome}
 use Rattle.pdl_shell.specs.CourseLaws.{Laws}
+use Rattle.pdl_shell.specs.Calls.{RunsScript}
 use Rattle.pdl_shell.specs.Course.{IsFresh, Foretells, Stands, Carries, StopsShort, FailsWith, Ends, Comes}
 use Rattle.pdl_shell.specs.Taken.{StopsSoon, ComesTo, Reads, terms_for}
 use Rattle.pdl_shell.proofs.Refusing.{all_met, foretold}
@@ -518,20 +520,31 @@ comes_on laws first now left out count left_now out_now fresh came grows stays l
     }
 
 -- a part stopped short before the end
-pub leaves_stopped : (result : Result Bool Stop) (stop : Stop) → IsErrAnd result (λ e. e ≡ stop) → (given : Terms) (p : Progress) (out final : Outlets)
-    → IsShort (ending_of_run given p) out final → Leaves result given p out final
-leaves_stopped (Ok faulted) stop is given p out final short = absurd is
-leaves_stopped (Err Source) stop is given p out final short = short
-leaves_stopped (Err Sink) stop is given p out final short = short
-leaves_stopped (Err Watcher) stop is given p out final short = inl short
-leaves_stopped (Err NoRoom) stop is given p out final short = short
+leaves_short : (stop : Stop) (given : Terms) (p : Progress) (out final : Outlets) → IsShort (ending_of_run given p) out final → Leaves (Err stop) given p out final
+leaves_short Source given p out final short = short
+leaves_short Sink given p out final short = short
+leaves_short Watcher given p out final short = inl short
+leaves_short NoRoom given p out final short = short
 
 pub reads_result : {T : Type 0} (result : Result T Stop) (stop : Stop) → IsErrAnd result (λ e. e ≡ stop) → (keep : Bool) (refused : List ℕ) (old new : Outside)
     → Reads keep refused (status_of_stop stop) old new → IfErr result (λ s. Reads keep refused (status_of_stop s) old new)
 reads_result (Ok x) stop is keep refused old new reads = absurd is
 reads_result (Err e) stop is keep refused old new reads = subst (λ (s : Stop). Reads keep refused (status_of_stop s) old new) (sym is) reads
 
-pub reads_stopped : (result : Result Bool Stop) (stop : Stop) → IsErrAnd result (λ e. e ≡ stop) → (keep : Bool) (refused : List ℕ) (old new : Outside)
-    → Reads keep refused (status_of_stop stop) old new → Reads keep refused (status_after result refused) old new
-reads_stopped (Ok x) stop is keep refused old new reads = absurd is
-reads_stopped (Err e) stop is keep refused old new reads = subst (λ (s : Stop). Reads keep refused (status_of_stop s) old new) (sym is) reads
+-- so no more of the run comes
+pub runs_stopped : (keep : Bool) (refused : List ℕ) (stop : Stop) (result : Result Bool Stop) → IsErrAnd result (λ e. e ≡ stop) → (old new : Outside)
+    → ((script : List ℕ) → old.left ≡ Some script → IsShort (ending_on (terms_for keep old.out.slots refused) script) old.out new.out)
+    → Reads keep refused (status_of_stop stop) old new → TakesAtMost (script_limit + 1) old.left new.left → HasReason (status_of_stop stop) old new
+    → KeepsTelling old.out.flushed new.out.flushed → RunsScript keep refused result old new
+runs_stopped keep refused stop (Ok x) is old new short reads at_most reason tells = absurd is
+runs_stopped keep refused stop (Err e) is old new short reads at_most reason tells =
+    subst (λ (s : Stop). RunsScript keep refused (Err s) old new) (sym is) (record {
+      leaves = λ script held.
+          let terms : Terms = terms_for keep old.out.slots refused in
+          leaves_short stop terms (run terms script) old.out new.out (short script held);
+      reads = reads;
+      at_most = at_most;
+      causes = reason;
+      flushed = tt;
+      tells = tells;
+    })

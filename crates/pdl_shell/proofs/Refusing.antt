@@ -1,5 +1,5 @@
 -- The statements that memory refused, as a runner comes further.
-use Rattle.std.proofs.Common.{◌≡◌, ℕ, ◌+◌, ◌<◌, ◌≤◌, List, [], ◌∷◌, ◌++◌, length, get_or, Bool, true, false, cond, refl, sym, ◌∙◌, ap, subst, arith, append-nil, eq-eqb}
+use Rattle.std.proofs.Common.{◌≡◌, ℕ, ◌+◌, ◌<◌, ◌≤◌, List, [], ◌∷◌, ◌++◌, length, get_or, true, false, cond, refl, sym, ◌∙◌, ap, subst, arith, append-nil, eq-eqb}
 use Rattle.std.specs.Prelude.{◌||◌, ◌==◌, nat_lt}
 use Rattle.std.specs.List.{All, AllPairs, list_any}
 use Rattle.std.proofs.Math.Nat.{le_refl, le_trans}
@@ -8,19 +8,12 @@ use Rattle.std.proofs.lemmas.List.{get_or_append_left, length-append}
 use Rattle.std.proofs.lemmas.List.Kept.{AllPairs-from_increasing}
 use Rattle.std.proofs.Math.Seq.{get_or-append_seam}
 use Rattle.std.proofs.lemmas.List.Folds.{list_any-append, list_any_none}
+use Rattle.std.proofs.Math.Bool.{or-true, or-false}
 use Rattle.pdl_watch.specs.Slots.{StartsWith}
 use Rattle.pdl_machine.specs.Run.{Terms, is_among, refused_limit, run}
 use Rattle.pdl_machine.specs.RunLaws.{RefusedAreGiven, RefusedRise}
 use Rattle.pdl_shell.specs.declared.runner.Runner.{Runner}
 use Rattle.pdl_shell.specs.Course.{Foretells, IsLater}
-
-or_true : (b : Bool) → (b || true) ≡ true
-or_true true = refl
-or_true false = refl
-
-or_false : (b : Bool) → (b || false) ≡ b
-or_false true = refl
-or_false false = refl
 
 -- a number above all of the list isn't among them
 pub unrefused : (ns : List ℕ) (before number : ℕ) → All (λ n. n ≤ before) ns → before < number → is_among ns number ≡ false
@@ -33,14 +26,14 @@ pub last_among : (ns : List ℕ) (number : ℕ) → is_among (ns ++ number ∷ [
 last_among ns number =
     list_any-append (λ n. n == number) ns (number ∷ [])
     ∙ ap (λ b. list_any (λ n. n == number) ns || (b || false)) (eq-eqb number number refl)
-    ∙ or_true (list_any (λ n. n == number) ns)
+    ∙ or-true (list_any (λ n. n == number) ns)
 
 -- a number that is added changes nothing of those below it
 below_last : (ns : List ℕ) (last number : ℕ) → number < last → is_among (ns ++ last ∷ []) number ≡ is_among ns number
 below_last ns last number less =
     list_any-append (λ n. n == number) ns (last ∷ [])
     ∙ ap (λ b. list_any (λ n. n == number) ns || (b || false)) (ne_eqb last number (λ is. omega (arith, is, less)))
-    ∙ or_false (list_any (λ n. n == number) ns)
+    ∙ or-false (list_any (λ n. n == number) ns)
 
 -- a number that is added where there is room
 pub added : (ns : List ℕ) (last : ℕ) → length ns < refused_limit → cond (nat_lt (length ns) refused_limit) (ns ++ last ∷ []) ns ≡ ns ++ last ∷ []

@@ -28,13 +28,6 @@ appends_then (Some bs) None now xs ys first then' = absurd first
 appends_then (Some bs) (Some cs) None xs ys first then' = absurd then'
 appends_then (Some bs) (Some cs) (Some ds) xs ys first then' = then' ∙ ap (λ u. u ++ ys) first ∙ append_assoc bs xs ys
 
--- bytes taken stay taken
-pub appends_kept : (before taken now : Option (List ℕ)) (xs : List ℕ) → Appends before taken xs → Keeps taken now → Appends before now xs
-appends_kept None taken now xs first kept = tt
-appends_kept (Some bs) None now xs first kept = absurd first
-appends_kept (Some bs) (Some cs) None xs first kept = absurd kept
-appends_kept (Some bs) (Some cs) (Some ds) xs first kept = kept ∙ first
-
 -- bytes consumed, and then more of them
 pub consumes_then : (old mid new : Option (List ℕ)) (xs ys : List ℕ) → Consumes old mid xs → Consumes mid new ys → Consumes old new (xs ++ ys)
 consumes_then None mid new xs ys first then' = tt

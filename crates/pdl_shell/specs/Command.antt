@@ -1,5 +1,5 @@
 -- The words of the command line.
-use Rattle.std.specs.Prelude.{ℕ, nat_eq, ◌+◌, ◌-◌, ◌*◌, nat_lt, nat_le, List, [], ◌∷◌, ◌++◌, length, drop, fold, Bool, true, false, ◌&&◌, Option, Some, None, codes, if◌then◌else◌}
+use Rattle.std.specs.Prelude.{ℕ, nat_eq, ◌+◌, ◌-◌, ◌*◌, nat_lt, nat_le, List, [], ◌∷◌, ◌++◌, length, drop, fold, map, Bool, true, false, ◌&&◌, Option, Some, None, String, string_bytes, codes, if◌then◌else◌}
 use Rattle.std.specs.Char.{is_ascii_digit}
 use Rattle.std.specs.List.{starts_with, list_all}
 use Rattle.std.specs.Str.{bytes_eq}
@@ -56,6 +56,10 @@ command_of (first ∷ []) = command_of_one first
 command_of (first ∷ second ∷ []) = command_of_two first second
 command_of (first ∷ second ∷ third ∷ []) = command_of_three first second third
 command_of (first ∷ second ∷ third ∷ fourth ∷ words) = None
+
+-- what these words of a command line ask for
+abbrev pub asked_by : {A : Type 0} → (words : List (String A)) → Option Command
+asked_by words = command_of (map string_bytes words)
 
 -- whether the source is read
 abbrev pub reads_source : Option Command → Bool

@@ -10,6 +10,7 @@ pub mod Outside
 pub mod Answers
 pub mod Stops
 pub mod Taken
+pub mod Calls
 pub mod Pace
 pub mod CourseLaws
 pub mod Course

@@ -23,10 +23,14 @@ pub record Outside : Type 0 where
   pub faults : ℕ
   pub out : Outlets
 
+-- these outlets beside a source that has this left, of whose calls so many failed
+abbrev pub beside : (left : Option (List ℕ)) → (faults : ℕ) → Outlets → Outside
+beside left faults out = record { left = left; faults = faults; out = out }
+
 -- what is seen of a source, with these outlets
 abbrev pub outside : {S : Type 0} → (left : S → Option (List ℕ)) → (faults : S → ℕ) →
     (source : S) → Outlets → Outside
-outside left faults source out = record { left = left source; faults = faults source; out = out }
+outside left faults source out = beside (left source) (faults source) out
 
 -- each watcher that is there still has its count of failed calls as it was
 abbrev pub CountsStay : Slots → Slots → Type 0

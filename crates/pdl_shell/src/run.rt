@@ -1,20 +1,18 @@
 //! The call that runs a script.
-ghost use Rattle.std.specs.Prelude.{◌≡◌, ◌≢◌, ℕ, ◌+◌, ◌<◌, ◌≤◌, List, [], length, map, Bool, true, false, Option, Some, None, OnOk, OnErr};
+ghost use Rattle.std.specs.Prelude.{◌≡◌, ◌≢◌, ℕ, ◌+◌, ◌<◌, ◌≤◌, List, [], length, Bool, true, false, Option, Some, None, OnOk, OnErr};
 ghost use Rattle.std.specs.List.Sorted.{IsStrictlyIncreasing};
 ghost use Rattle.std.specs.Io.KnownBytes.{Appends};
-ghost use Rattle.std.specs.String.{string_bytes};
 ghost use Rattle.pdl_io.specs.Counts.{HasCause};
 ghost use Rattle.pdl_io.specs.Told.{Says, KeepsTelling, AppendsPrefix};
 ghost use Rattle.pdl_lex.specs.Limits.{script_limit};
 ghost use Rattle.pdl_watch.specs.Slots.{Slots, slots_by, present_in, AreOpen};
-ghost use Rattle.pdl_machine.specs.Run.{run};
 ghost use Rattle.pdl_scope.specs.Scope.{slots_limit};
-ghost use Rattle.pdl_shell.specs.Command.{command_of, reads_source, usage_line};
-ghost use Rattle.pdl_shell.specs.Outside.{outlets, outside};
+ghost use Rattle.pdl_shell.specs.Command.{asked_by, reads_source, usage_line};
+ghost use Rattle.pdl_shell.specs.Outside.{outlets, beside, outside};
 ghost use Rattle.pdl_shell.specs.Course.{IsFresh};
-ghost use Rattle.pdl_shell.specs.Stops.{HasCauses, Leaves};
-ghost use Rattle.pdl_shell.specs.Answers.{CameToItsEnd, ending, ending_on, Gives, CanAnswer, HasReason, TakesAtMost, IsUndisturbed, status_after};
-ghost use Rattle.pdl_shell.specs.Taken.{Reads, terms_for};
+ghost use Rattle.pdl_shell.specs.Answers.{CameToItsEnd, ending, Gives, CanAnswer, HasReason, TakesAtMost, IsUndisturbed};
+ghost use Rattle.pdl_shell.specs.Taken.{Reads};
+ghost use Rattle.pdl_shell.specs.Calls.{RunsScript, IsAnswered};
 
 use crate::laws::course_laws;
 use crate::reading::read_parts;
@@ -49,27 +47,11 @@ fn drive<S: Source, K: Sink, W: Watcher, L: Ledger, M: Ledger>(
     requires ready { (runner.old.cutter.failed ≡ false) × (runner.old.cutter.taken ≡ 0) }
     requires unfinished { AreOpen (slots_by W.seen watchers.old.items) }
     requires few { length watchers.old.items ≤ slots_limit }
-    ensures leaves { (script : List ℕ) → S.left source.old ≡ Some script →
-        let slots = slots_by W.seen watchers.old.items in
-        let terms = terms_for runner.old.keep_going slots runner.new.refused in
-        Leaves result terms (run terms script)
-        (outlets K.taken K.is_flushed K.faults sink.old slots)
-        (outlets K.taken K.is_flushed K.faults sink.new (slots_by W.seen watchers.new.items)) }
-    ensures reads { Reads runner.old.keep_going runner.new.refused
-        (status_after result runner.new.refused)
-        (outside S.left S.faults source.old
-        (outlets K.taken K.is_flushed K.faults sink.old (slots_by W.seen watchers.old.items)))
-        (outside S.left S.faults source.new
-        (outlets K.taken K.is_flushed K.faults sink.new (slots_by W.seen watchers.new.items))) }
-    ensures at_most { TakesAtMost (script_limit + 1) (S.left source.old) (S.left source.new) }
-    ensures causes { HasCauses
-        (outside S.left S.faults source.old
-        (outlets K.taken K.is_flushed K.faults sink.old (slots_by W.seen watchers.old.items)))
-        (outside S.left S.faults source.new
-        (outlets K.taken K.is_flushed K.faults sink.new (slots_by W.seen watchers.new.items)))
-        result }
-    ensures flushed { OnOk result (Says (K.is_flushed sink.new) true) }
-    ensures tells { KeepsTelling (K.is_flushed sink.old) (K.is_flushed sink.new) }
+    ensures { RunsScript runner.old.keep_going runner.new.refused result
+        (outside S.left S.faults source.old (outlets K.taken K.is_flushed K.faults sink.old
+        (slots_by W.seen watchers.old.items)))
+        (outside S.left S.faults source.new (outlets K.taken K.is_flushed K.faults sink.new
+        (slots_by W.seen watchers.new.items))) }
 {
     course_laws();
     run_laws();
@@ -97,26 +79,11 @@ fn run_parts<S: Source, K: Sink, W: Watcher, L: Ledger, M: Ledger>(
     requires runs_some { 0 < runs.parts }
     requires unfinished { AreOpen (slots_by W.seen watchers.old.items) }
     requires few { length watchers.old.items ≤ slots_limit }
-    ensures leaves { (script : List ℕ) → S.left source.old ≡ Some script →
-        let slots = slots_by W.seen watchers.old.items in
-        let terms = terms_for keep_going slots refused.new in
-        Leaves result terms (run terms script)
-        (outlets K.taken K.is_flushed K.faults sink.old slots)
-        (outlets K.taken K.is_flushed K.faults sink.new (slots_by W.seen watchers.new.items)) }
-    ensures reads { Reads keep_going refused.new (status_after result refused.new)
-        (outside S.left S.faults source.old
-        (outlets K.taken K.is_flushed K.faults sink.old (slots_by W.seen watchers.old.items)))
-        (outside S.left S.faults source.new
-        (outlets K.taken K.is_flushed K.faults sink.new (slots_by W.seen watchers.new.items))) }
-    ensures at_most { TakesAtMost (script_limit + 1) (S.left source.old) (S.left source.new) }
-    ensures causes { HasCauses
-        (outside S.left S.faults source.old
-        (outlets K.taken K.is_flushed K.faults sink.old (slots_by W.seen watchers.old.items)))
-        (outside S.left S.faults source.new
-        (outlets K.taken K.is_flushed K.faults sink.new (slots_by W.seen watchers.new.items)))
-        result }
-    ensures flushed { OnOk result (Says (K.is_flushed sink.new) true) }
-    ensures tells { KeepsTelling (K.is_flushed sink.old) (K.is_flushed sink.new) }
+    ensures { RunsScript keep_going refused.new result
+        (outside S.left S.faults source.old (outlets K.taken K.is_flushed K.faults sink.old
+        (slots_by W.seen watchers.old.items)))
+        (outside S.left S.faults source.new (outlets K.taken K.is_flushed K.faults sink.new
+        (slots_by W.seen watchers.new.items))) }
 {
     let mut runner = Runner::new(alloc, keep_going);
     let mut steps = new_steps::<L>(blank);
@@ -138,26 +105,11 @@ pub(crate) fn run_script<S: Source, K: Sink, W: Watcher>(
 ) -> Status
     requires unfinished { AreOpen (slots_by W.seen watchers.old.items) }
     requires few { length watchers.old.items ≤ slots_limit }
-    ensures model { (script : List ℕ) → S.left source.old ≡ Some script →
-        let slots = slots_by W.seen watchers.old.items in
-        Gives result (ending_on (terms_for keep_going slots refused.new) script)
-        (outlets K.taken K.is_flushed K.faults sink.old slots)
-        (outlets K.taken K.is_flushed K.faults sink.new (slots_by W.seen watchers.new.items)) }
-    ensures answers { CanAnswer (Some (Command.Run keep_going)) result }
-    ensures reads { Reads keep_going refused.new result
-        (outside S.left S.faults source.old
-        (outlets K.taken K.is_flushed K.faults sink.old (slots_by W.seen watchers.old.items)))
-        (outside S.left S.faults source.new
-        (outlets K.taken K.is_flushed K.faults sink.new (slots_by W.seen watchers.new.items))) }
-    ensures rising { IsStrictlyIncreasing refused.new }
-    ensures at_most { TakesAtMost (script_limit + 1) (S.left source.old) (S.left source.new) }
-    ensures reason { HasReason result
-        (outside S.left S.faults source.old
-        (outlets K.taken K.is_flushed K.faults sink.old (slots_by W.seen watchers.old.items)))
-        (outside S.left S.faults source.new
-        (outlets K.taken K.is_flushed K.faults sink.new (slots_by W.seen watchers.new.items))) }
-    ensures flushed { CameToItsEnd result → Says (K.is_flushed sink.new) true }
-    ensures tells { KeepsTelling (K.is_flushed sink.old) (K.is_flushed sink.new) }
+    ensures { IsAnswered (Some (Command.Run keep_going)) refused.new result
+        (outside S.left S.faults source.old (outlets K.taken K.is_flushed K.faults sink.old
+        (slots_by W.seen watchers.old.items)))
+        (outside S.left S.faults source.new (outlets K.taken K.is_flushed K.faults sink.new
+        (slots_by W.seen watchers.new.items))) }
 {
     run_laws();
     let blank = Blank::new(1);
@@ -182,30 +134,47 @@ fn write_usage<K: Sink>(sink: &mut K) -> Result<(), Failed>
 
 // Answers words that are no spelling of the command.
 fn usage<K: Sink>(sink: &mut K) -> Status
-    ensures model { (script : List ℕ) (slots : Slots) →
-        Gives result (ending None (present_in slots) [] script)
-        (outlets K.taken K.is_flushed K.faults sink.old slots)
-        (outlets K.taken K.is_flushed K.faults sink.new slots) }
-    ensures answers { CanAnswer None result }
-    ensures reason { (left : Option (List ℕ)) (faults : ℕ) (slots : Slots) → HasReason result
-        (record {
-          left = left;
-          faults = faults;
-          out = outlets K.taken K.is_flushed K.faults sink.old slots;
-        })
-        (record {
-          left = left;
-          faults = faults;
-          out = outlets K.taken K.is_flushed K.faults sink.new slots;
-        }) }
-    ensures flushed { CameToItsEnd result → Says (K.is_flushed sink.new) true }
-    ensures tells { KeepsTelling (K.is_flushed sink.old) (K.is_flushed sink.new) }
+    ensures { (left : Option (List ℕ)) (faults : ℕ) (slots : Slots) → IsAnswered None [] result
+        (beside left faults (outlets K.taken K.is_flushed K.faults sink.old slots))
+        (beside left faults (outlets K.taken K.is_flushed K.faults sink.new slots)) }
 {
     slot_laws();
     telling_laws();
     match write_usage(sink) {
         Ok(()) => Status::Usage,
         Err(_) => Status::SinkFault,
+    }
+}
+
+// Does what the words of the command line ask for.
+fn run_command<S: Source, K: Sink, W: Watcher>(
+    alloc: Global,
+    asked: Option<Command>,
+    source: &mut S,
+    sink: &mut K,
+    watchers: &mut Vec<Option<W>>,
+    refused: &mut Refused,
+) -> Status
+    requires none { refused.old ≡ [] }
+    requires unfinished { AreOpen (slots_by W.seen watchers.old.items) }
+    requires few { length watchers.old.items ≤ slots_limit }
+    ensures answered { IsAnswered asked refused.new result
+        (outside S.left S.faults source.old (outlets K.taken K.is_flushed K.faults sink.old
+        (slots_by W.seen watchers.old.items)))
+        (outside S.left S.faults source.new (outlets K.taken K.is_flushed K.faults sink.new
+        (slots_by W.seen watchers.new.items))) }
+    ensures unread { reads_source asked ≡ false → source.new ≡ source.old }
+    ensures unwatched { reads_source asked ≡ false → watchers.new ≡ watchers.old }
+    ensures unrefused { reads_source asked ≡ false → refused.new ≡ [] }
+{
+    match asked {
+        Some(Command::Run { keep_going }) => {
+            run_script(alloc, keep_going, source, sink, watchers, refused)
+        }
+        Some(Command::Generate { keep_going, rounds }) => {
+            summarize(alloc, keep_going, rounds, sink)
+        }
+        None => usage(sink),
     }
 }
 
@@ -256,23 +225,17 @@ pub fn run_shell<S: Source, K: Sink>(
     requires unfinished { AreOpen (slots_by (λ b. seen b) watchers.old.items) }
     requires few { length watchers.old.items ≤ slots_limit }
     ensures model { (script : List ℕ) →
-        (reads_source (command_of (map string_bytes words.now)) ≡ true →
-        S.left source.old ≡ Some script) →
+        (reads_source (asked_by words.now) ≡ true → S.left source.old ≡ Some script) →
         let slots = slots_by (λ b. seen b) watchers.old.items in
-        Gives result (ending (command_of (map string_bytes words.now)) (present_in slots) refused.new
-        script)
+        Gives result (ending (asked_by words.now) (present_in slots) refused.new script)
         (outlets K.taken K.is_flushed K.faults sink.old slots)
         (outlets K.taken K.is_flushed K.faults sink.new
         (slots_by (λ b. seen b) watchers.new.items)) }
-    ensures answers { CanAnswer (command_of (map string_bytes words.now)) result }
-    ensures unread { reads_source (command_of (map string_bytes words.now)) ≡ false →
-        source.new ≡ source.old }
-    ensures unwatched { reads_source (command_of (map string_bytes words.now)) ≡ false →
-        watchers.new ≡ watchers.old }
-    ensures unrefused { reads_source (command_of (map string_bytes words.now)) ≡ false →
-        refused.new ≡ [] }
-    ensures reads { (keep : Bool) →
-        command_of (map string_bytes words.now) ≡ Some (Command.Run keep) →
+    ensures answers { CanAnswer (asked_by words.now) result }
+    ensures unread { reads_source (asked_by words.now) ≡ false → source.new ≡ source.old }
+    ensures unwatched { reads_source (asked_by words.now) ≡ false → watchers.new ≡ watchers.old }
+    ensures unrefused { reads_source (asked_by words.now) ≡ false → refused.new ≡ [] }
+    ensures reads { (keep : Bool) → asked_by words.now ≡ Some (Command.Run keep) →
         Reads keep refused.new result
         (outside S.left S.faults source.old (outlets K.taken K.is_flushed K.faults sink.old
         (slots_by (λ b. seen b) watchers.old.items)))
@@ -294,13 +257,5 @@ pub fn run_shell<S: Source, K: Sink>(
     ensures flushed { CameToItsEnd result → Says (K.is_flushed sink.new) true }
     ensures tells { KeepsTelling (K.is_flushed sink.old) (K.is_flushed sink.new) }
 {
-    match read_words(words) {
-        Some(Command::Run { keep_going }) => {
-            run_script(alloc, keep_going, source, sink, watchers, refused)
-        }
-        Some(Command::Generate { keep_going, rounds }) => {
-            summarize(alloc, keep_going, rounds, sink)
-        }
-        None => usage(sink),
-    }
+    run_command(alloc, read_words(words), source, sink, watchers, refused)
 }

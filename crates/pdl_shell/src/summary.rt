@@ -7,11 +7,11 @@ ghost use Rattle.pdl_lex.specs.Pieces.{pieces};
 ghost use Rattle.pdl_machine.specs.Run.{run};
 ghost use Rattle.pdl_shell.specs.declared.words.Command.TheVariants.{Generate};
 ghost use Rattle.pdl_shell.specs.Generated.{generated_script};
-ghost use Rattle.pdl_watch.specs.Slots.{Slots, present_in};
-ghost use Rattle.pdl_shell.specs.Outside.{outlets};
+ghost use Rattle.pdl_watch.specs.Slots.{Slots};
+ghost use Rattle.pdl_shell.specs.Outside.{outlets, beside};
 ghost use Rattle.pdl_shell.specs.Summary.{unwatched, summary};
 ghost use Rattle.pdl_shell.specs.Stops.{HasSinkCause};
-ghost use Rattle.pdl_shell.specs.Answers.{CameToItsEnd, ending, Gives, CanAnswer, HasReason};
+ghost use Rattle.pdl_shell.specs.Calls.{IsAnswered};
 
 use crate::generated::generated_script;
 use crate::output::{flush, write_text};
@@ -103,24 +103,10 @@ pub(crate) fn summarize<K: Sink>(
     rounds: u16,
     sink: &mut K,
 ) -> Status
-    ensures model { (script : List ℕ) (slots : Slots) →
-        let wanted = ending (Some (Generate keep_going rounds)) (present_in slots) [] script in
-        Gives result wanted (outlets K.taken K.is_flushed K.faults sink.old slots)
-        (outlets K.taken K.is_flushed K.faults sink.new slots) }
-    ensures answers { CanAnswer (Some (Generate keep_going rounds)) result }
-    ensures reason { (left : Option (List ℕ)) (faults : ℕ) (slots : Slots) → HasReason result
-        (record {
-          left = left;
-          faults = faults;
-          out = outlets K.taken K.is_flushed K.faults sink.old slots;
-        })
-        (record {
-          left = left;
-          faults = faults;
-          out = outlets K.taken K.is_flushed K.faults sink.new slots;
-        }) }
-    ensures flushed { CameToItsEnd result → Says (K.is_flushed sink.new) true }
-    ensures tells { KeepsTelling (K.is_flushed sink.old) (K.is_flushed sink.new) }
+    ensures { (left : Option (List ℕ)) (faults : ℕ) (slots : Slots) →
+        IsAnswered (Some (Generate keep_going rounds)) [] result
+        (beside left faults (outlets K.taken K.is_flushed K.faults sink.old slots))
+        (beside left faults (outlets K.taken K.is_flushed K.faults sink.new slots)) }
 {
     slot_laws();
     telling_laws();

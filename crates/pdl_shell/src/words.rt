@@ -1,7 +1,6 @@
 //! The words of the command line.
-ghost use Rattle.std.specs.Prelude.{◌≡◌, map};
-ghost use Rattle.std.specs.String.{string_bytes};
-ghost use Rattle.pdl_shell.specs.Command.{is_keep_going, is_generate, value_of, is_number_of_rounds, generating, generating_joined, command_of_one, command_of_two, command_of_three, command_of};
+ghost use Rattle.std.specs.Prelude.{◌≡◌};
+ghost use Rattle.pdl_shell.specs.Command.{is_keep_going, is_generate, value_of, is_number_of_rounds, generating, generating_joined, command_of_one, command_of_two, command_of_three, asked_by};
 
 use crate::limits::MOST_ROUNDS;
 
@@ -106,7 +105,7 @@ fn read_three(first: &[u8], second: &[u8], third: &[u8]) -> Option<Command>
 
 // What the words ask for, or nothing where they are no spelling of the command.
 pub(crate) fn read_words(words: &[String]) -> Option<Command>
-    ensures { result ≡ command_of (map string_bytes words.now) }
+    ensures { result ≡ asked_by words.now }
 {
     match words {
         [] => Some(Command::Run { keep_going: false }),

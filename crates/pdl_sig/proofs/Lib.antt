@@ -1,7 +1,6 @@
 pub mod Complete
 pub mod Digits
 pub mod Fronts
-pub mod JoinedSizes
 pub mod Meanings
 pub mod Names
 pub mod Outcomes

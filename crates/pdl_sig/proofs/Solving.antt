@@ -3,6 +3,7 @@ use Rattle.std.proofs.Common.{◌≡◌, ◌≢◌, ℕ, zero, suc, ◌+◌, ◌
 use Rattle.std.specs.List.{list_any, Contains}
 use Rattle.std.specs.Option.{unwrap_or}
 use Rattle.std.proofs.lemmas.Bool.{or_parts}
+use Rattle.pdl_lemmas.specs.Lists.{entry_inside}
 use Rattle.pdl_sig.specs.declared.SigArg.{SigArg}
 use Rattle.pdl_sig.specs.declared.Signature.{Signature}
 use Rattle.pdl_sig.specs.declared.ArgShape.{ArgShape}
@@ -29,11 +30,6 @@ sized_at cs m (f ∷ fs) (suc n) h = sized_at cs (m + 1) fs n (omega arith) ∙ 
 count_sizes : (cs : List (ℕ × ℕ)) (m : ℕ) (fs : List (Option ℕ)) → length (sizes_from cs m fs) ≡ length fs
 count_sizes cs m [] = refl
 count_sizes cs m (f ∷ fs) = ap suc (count_sizes cs (m + 1) fs)
-
-fixed_inside : (fs : List (Option ℕ)) (n k : ℕ) → get_or fs n None ≡ Some k → n < length fs
-fixed_inside [] n k h = cc
-fixed_inside (f ∷ fs) zero k h = omega arith
-fixed_inside (f ∷ fs) (suc n) k h = omega (arith, fixed_inside fs n k h)
 
 -- a size that was found is one of the cores
 front_is : (c : ℕ × ℕ) (n : ℕ) (a b : Bool) → (c.0 == n) ≡ a → (a && b) ≡ true → c ≡ (n, c.1)
@@ -70,7 +66,7 @@ solution_solves : (signature : Signature) (given : List ArgShape) (broadcast : L
 solution_solves signature given broadcast f j =
     let cs = cores (handed signature.args given) in
     record {
-      fixed = λ n k e. sized_at cs 0 signature.fixed n (fixed_inside signature.fixed n k e) ∙ ap (λ o. unwrap_or o (found_size cs (0 + n))) e;
+      fixed = λ n k e. sized_at cs 0 signature.fixed n (entry_inside signature.fixed n k e) ∙ ap (λ o. unwrap_or o (found_size cs (0 + n))) e;
       fit = all_fit (named_sizes signature given) cs f;
       own = λ n h e m.
           let q : size_in (named_sizes signature given) n ≡ found_size cs n = sized_at cs 0 signature.fixed n h ∙ ap (λ o. unwrap_or o (found_size cs (0 + n))) e ∙ ap (found_size cs) (zero-add n) in

@@ -1,9 +1,10 @@
 //! The tokens of signatures. Each function takes a text, and answers what stands at its front with
 //! the text after it.
-ghost use Rattle.std.specs.Prelude.{◌≡◌, ◌≤◌, length, min, option_map, IsTrue};
+ghost use Rattle.std.specs.Prelude.{◌≡◌, ◌≤◌, ◌+◌, length, min, option_map, IsTrue};
 ghost use Rattle.std.specs.List.{list_all};
 ghost use Rattle.std.specs.Char.{is_ascii_digit};
 ghost use Rattle.pdl_elem.specs.Tables.{found_in};
+ghost use Rattle.pdl_shape.specs.Shape.{extent_limit};
 ghost use Rattle.pdl_lex.specs.Bytes.{is_letter};
 ghost use Rattle.pdl_sig.specs.Grammar.{past_blanks, begins, value_after, is_number, type_of, role_of, reserved, is_arg_word, is_dim_word};
 ghost use Rattle.pdl_sig.specs.SignatureReading.{is_end, sign_at, word_at, number_at};
@@ -87,7 +88,7 @@ fn is_number(digits: &[u8]) -> bool
 /// The number that digits spell, or one above the largest for all that are larger.
 fn value(digits: &[u8]) -> u32
     requires { IsTrue (list_all is_ascii_digit digits.now) }
-    ensures { result ≡ min (value_after 0 digits.now) 1048577 }
+    ensures { result ≡ min (value_after 0 digits.now) (extent_limit + 1) }
 {
     let mut value = 0;
     for digit in digits {

@@ -21,6 +21,8 @@ fn add_names(names: &mut Vec<Name>, dims: &[WrittenDim]) -> Result<bool, AllocEr
         names.new.items ≡ names_after names.old.items dims.now) }
     ensures many { IfOk result (λ room. room ≡ false →
         dim_names_limit < length (names_after names.old.items dims.now)) }
+    ensures bound { length names.old.items ≤ dim_names_limit →
+        IfOk result (λ _. length names.new.items ≤ dim_names_limit) }
 {
     for dim in dims {
         if !has_name(names.as_slice(), &dim.name) {
@@ -40,6 +42,8 @@ pub fn all_names(alloc: Global, args: &[WrittenArg]) -> Result<Option<Vec<Name>>
         names.items ≡ all_names [] args.now)) }
     ensures many { IfOk result (λ found. found ≡ None →
         dim_names_limit < length (all_names [] args.now)) }
+    ensures bound { IfOk result (λ found. IfSome found (λ names.
+        length names.items ≤ dim_names_limit)) }
 {
     let mut names = Vec::new(alloc);
     for arg in args {

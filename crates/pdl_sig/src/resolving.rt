@@ -90,7 +90,7 @@ pub fn resolve(
     if any_unfit(sizes.as_slice(), cores.as_slice()) {
         return Err(ResolveFault::CoreMismatch);
     }
-    match broadcast(alloc, args, given)? {
+    match broadcast(alloc, args, given) {
         None => Err(ResolveFault::BroadcastMismatch),
         Some(broadcast) => resolved_by(alloc, args, given, sizes.as_slice(), broadcast.as_slice()),
     }

@@ -7,11 +7,11 @@ use Rattle.pdl_slices.specs.declared.SliceArg.{SliceArg}
 use Rattle.pdl_slices.specs.declared.SliceArg.TheVariants.{Whole, One, Dropped, Dummy, Span}
 use Rattle.pdl_slices.specs.declared.SliceFault.{SliceFault}
 use Rattle.pdl_slices.specs.SliceReading.{more_digits, with_sign}
-use Rattle.pdl_slices.specs.Refusals.{is_large, is_large_end, has_large_number, is_zero, has_zero_step, refusal}
+use Rattle.pdl_slices.specs.Refusals.{size_limit, is_large, is_large_end, has_large_number, is_zero, has_zero_step, refusal}
 
 -- a size, cut
 abbrev pub cut_size : ℕ → ℕ
-cut_size n = min n 2147483648
+cut_size n = min n (size_limit + 1)
 
 -- a number with its size cut
 abbrev pub cut : ℤ → ℤ

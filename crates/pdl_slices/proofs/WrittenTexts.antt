@@ -6,29 +6,16 @@ use Rattle.std.proofs.lemmas.List.Folds.{list_all-append}
 use Rattle.std.specs.Prelude.{Option, Some, None, Ok, ◌==◌, ◌||◌, ◌&&◌, is_some, decimal}
 use Rattle.std.specs.Fmt.{digits, signed_decimal}
 use Rattle.std.specs.List.{list_all, list_any}
-use Rattle.std.specs.Char.{is_ascii_digit}
 use Rattle.std.specs.Int.Digits.{digits_of, number_from_digits, number_from_digits_after, AllBelowBase}
 use Rattle.std.proofs.lemmas.Fmt.{decimal-digits_of}
 use Rattle.std.proofs.lemmas.Int.Digits.{first_digits_of, all_below_base_digits_of, number_digits_of}
+use Rattle.pdl_lemmas.specs.Numbers.{digit_is}
 use Rattle.pdl_slices.specs.declared.SliceArg.{SliceArg}
 use Rattle.pdl_slices.specs.declared.SliceArg.TheVariants.{Whole, One, Dropped, Dummy, Span}
 use Rattle.pdl_slices.specs.Grammar.{is_blank, Blanks, no_blank, blank_after, Digits, one_digit, digit_after, Number, plain, minus, Field, left_out, given, Arg, nothing, one, dropped, colon, span, stepped, sized, star, Args, one_arg, arg_after, Spells, blanks_alone, listed}
-use Rattle.pdl_slices.specs.Refusals.{is_large, is_large_end, has_large_number, refusal, IsRead}
+use Rattle.pdl_slices.specs.Refusals.{size_limit, is_large, is_large_end, has_large_number, refusal, IsRead}
 use Rattle.pdl_slices.specs.Meaning.{TextsHaveOneMeaning}
 use Rattle.pdl_slices.specs.Written.{end_text, step_text, arg_text, more_text, slice_text, WrittenTextsAreRead}
-
-digit_is : (d : ℕ) → d < 10 → is_ascii_digit (48 + d) ≡ true
-digit_is zero below = refl
-digit_is (suc zero) below = refl
-digit_is (suc (suc zero)) below = refl
-digit_is (suc (suc (suc zero))) below = refl
-digit_is (suc (suc (suc (suc zero)))) below = refl
-digit_is (suc (suc (suc (suc (suc zero))))) below = refl
-digit_is (suc (suc (suc (suc (suc (suc zero)))))) below = refl
-digit_is (suc (suc (suc (suc (suc (suc (suc zero))))))) below = refl
-digit_is (suc (suc (suc (suc (suc (suc (suc (suc zero)))))))) below = refl
-digit_is (suc (suc (suc (suc (suc (suc (suc (suc (suc zero))))))))) below = refl
-digit_is (suc (suc (suc (suc (suc (suc (suc (suc (suc (suc d)))))))))) below = absurd (omega arith)
 
 -- digits behind those before spell the number that goes on
 digits_on : (ds : List ℕ) (n : ℕ) (s : List ℕ) → AllBelowBase 10 ds → Digits n s → Digits (number_from_digits_after 10 n ds) (s ++ map (λ d. 48 + d) ds)
@@ -48,7 +35,7 @@ digits_spelled (d ∷ ds) below first =
     value : (d : ℕ) → 48 + d - 48 ≡ 0 * 10 + d
     value d = omega arith
 
-decimal_spelled : (n : ℕ) → n ≤ 2147483647 → Digits n (decimal n)
+decimal_spelled : (n : ℕ) → n ≤ size_limit → Digits n (decimal n)
 unfolding digits
 decimal_spelled zero small = one_digit 48 refl
 decimal_spelled (suc n) small =
@@ -56,16 +43,16 @@ decimal_spelled (suc n) small =
     (subst (λ t. Digits (number_from_digits 10 (digits_of 10 (suc n))) t) (sym (decimal-digits_of (suc n) (omega arith) (omega arith)))
     (digits_spelled (digits_of 10 (suc n)) (all_below_base_digits_of 10 (suc n) (omega arith)) (first_digits_of 10 (suc n) (omega arith) (omega arith))))
 
-number_spelled : (n : ℤ) → nat_abs n ≤ 2147483647 → Number n (signed_decimal n)
+number_spelled : (n : ℤ) → nat_abs n ≤ size_limit → Number n (signed_decimal n)
 number_spelled (pos n) small = plain n (decimal n) (decimal_spelled n (omega (arith, small)))
 number_spelled (negsuc n) small = minus (suc n) (decimal (suc n)) (decimal_spelled (suc n) (omega (arith, small)))
 
-field_spelled : (n : ℤ) → nat_abs n ≤ 2147483647 → Field (Some n) (signed_decimal n)
+field_spelled : (n : ℤ) → nat_abs n ≤ size_limit → Field (Some n) (signed_decimal n)
 field_spelled n small = subst (Field (Some n)) (append-nil (signed_decimal n)) (given n [] (signed_decimal n) [] no_blank (number_spelled n small) no_blank)
 
 end_spelled : (e : Option ℤ) → is_large_end e ≡ false → Field e (end_text e)
 end_spelled None small = left_out [] no_blank
-end_spelled (Some n) small = field_spelled n (ltb-false 2147483647 (nat_abs n) small)
+end_spelled (Some n) small = field_spelled n (ltb-false size_limit (nat_abs n) small)
 
 -- an argument that some text spells
 abbrev IsWritable : SliceArg → Type 0
@@ -82,9 +69,9 @@ AllWritable (a ∷ args) = IsWritable a × AllWritable args
 
 arg_spelled : (a : SliceArg) → IsWritable a → has_large_number a ≡ false → Arg a (arg_text a)
 arg_spelled Whole can small = colon [] [] (left_out [] no_blank) (left_out [] no_blank)
-arg_spelled (One n) can small = one n (signed_decimal n) (field_spelled n (ltb-false 2147483647 (nat_abs n) small))
-arg_spelled (Dropped n) can small = dropped n [] (signed_decimal n) [] no_blank (field_spelled n (ltb-false 2147483647 (nat_abs n) small)) no_blank
-arg_spelled (Dummy n) can small = subst (λ t. Arg (Dummy n) (42 ∷ t)) (append-nil (decimal n)) (sized n [] [] (decimal n) [] no_blank no_blank (decimal_spelled n (ltb-false 2147483647 n small)) no_blank)
+arg_spelled (One n) can small = one n (signed_decimal n) (field_spelled n (ltb-false size_limit (nat_abs n) small))
+arg_spelled (Dropped n) can small = dropped n [] (signed_decimal n) [] no_blank (field_spelled n (ltb-false size_limit (nat_abs n) small)) no_blank
+arg_spelled (Dummy n) can small = subst (λ t. Arg (Dummy n) (42 ∷ t)) (append-nil (decimal n)) (sized n [] [] (decimal n) [] no_blank no_blank (decimal_spelled n (ltb-false size_limit n small)) no_blank)
 arg_spelled (Span from to None) can small =
     let parts = or_parts (is_large_end from || is_large_end to) false small in
     let ends = or_parts (is_large_end from) (is_large_end to) parts.0 in
@@ -93,7 +80,7 @@ arg_spelled (Span from to (Some step)) can small =
     let parts = or_parts (is_large_end from || is_large_end to) (is_large (nat_abs step)) small in
     let ends = or_parts (is_large_end from) (is_large_end to) parts.0 in
     subst (Arg (Span from to (Some step))) (append_assoc (end_text from) (58 ∷ end_text to) (58 ∷ signed_decimal step))
-    (stepped from to step (end_text from) (end_text to) (signed_decimal step) (end_spelled from ends.0) (end_spelled to ends.1) (field_spelled step (ltb-false 2147483647 (nat_abs step) parts.1)))
+    (stepped from to step (end_text from) (end_text to) (signed_decimal step) (end_spelled from ends.0) (end_spelled to ends.1) (field_spelled step (ltb-false size_limit (nat_abs step) parts.1)))
 
 -- arguments behind those before
 args_on : (done rest : List SliceArg) (s : List ℕ) → Args done s → AllWritable rest → list_any has_large_number rest ≡ false → Args (done ++ rest) (s ++ more_text rest)
@@ -137,13 +124,13 @@ first_no_blank : (ds : List ℕ) → 0 < get_or ds 0 0 → list_all is_blank (ma
 first_no_blank [] first = absurd (omega arith)
 first_no_blank (d ∷ ds) first = rw (digit_no_blank d)
 
-decimal_no_blank : (n : ℕ) → n ≤ 2147483647 → list_all is_blank (decimal n) ≡ false
+decimal_no_blank : (n : ℕ) → n ≤ size_limit → list_all is_blank (decimal n) ≡ false
 unfolding digits
 decimal_no_blank zero small = refl
 decimal_no_blank (suc n) small =
     subst (λ t. list_all is_blank t ≡ false) (sym (decimal-digits_of (suc n) (omega arith) (omega arith))) (first_no_blank (digits_of 10 (suc n)) (first_digits_of 10 (suc n) (omega arith) (omega arith)))
 
-number_no_blank : (n : ℤ) → nat_abs n ≤ 2147483647 → list_all is_blank (signed_decimal n) ≡ false
+number_no_blank : (n : ℤ) → nat_abs n ≤ size_limit → list_all is_blank (signed_decimal n) ≡ false
 number_no_blank (pos n) small = decimal_no_blank n (omega (arith, small))
 number_no_blank (negsuc n) small = refl
 
@@ -153,7 +140,7 @@ and_false false = refl
 
 arg_no_blank : (a : SliceArg) → has_large_number a ≡ false → list_all is_blank (arg_text a) ≡ false
 arg_no_blank Whole small = refl
-arg_no_blank (One n) small = number_no_blank n (ltb-false 2147483647 (nat_abs n) small)
+arg_no_blank (One n) small = number_no_blank n (ltb-false size_limit (nat_abs n) small)
 arg_no_blank (Dropped n) small = refl
 arg_no_blank (Dummy n) small = refl
 arg_no_blank (Span from to step) small = list_all-append is_blank (end_text from) (58 ∷ (end_text to ++ step_text step)) ∙ and_false (list_all is_blank (end_text from))

@@ -6,18 +6,23 @@ use Rattle.pdl_slices.specs.declared.SliceArg.TheVariants.{Whole, One, Dropped, 
 use Rattle.pdl_slices.specs.declared.SliceFault.{SliceFault}
 use Rattle.pdl_slices.specs.declared.SliceFault.TheVariants.{BadText, TooManyArgs, NumberTooLarge, ZeroStep, NoMemory}
 use Rattle.pdl_slices.specs.declared.reader.TheConstants.{MOST_ARGS}
+use Rattle.pdl_slices.specs.declared.reading.TheConstants.{LARGEST_SIZE}
 use Rattle.pdl_slices.specs.Grammar.{Spells, CanBegin}
 
--- a size above 2147483647
-abbrev pub is_large : ℕ → Bool
-is_large n = nat_lt 2147483647 n
+-- the greatest size that a number may have
+abbrev pub size_limit : ℕ
+size_limit = LARGEST_SIZE
 
--- an end or a step whose size is above 2147483647
+-- a size above that
+abbrev pub is_large : ℕ → Bool
+is_large n = nat_lt size_limit n
+
+-- an end or a step whose size is above that
 abbrev pub is_large_end : Option ℤ → Bool
 is_large_end None = false
 is_large_end (Some n) = is_large (nat_abs n)
 
--- some number of the argument has a size above 2147483647
+-- some number of the argument has a size above that
 abbrev pub has_large_number : SliceArg → Bool
 has_large_number Whole = false
 has_large_number (One n) = is_large (nat_abs n)
@@ -42,8 +47,10 @@ has_zero_step (Span from to step) = is_zero step
 abbrev pub args_limit : ℕ
 args_limit = MOST_ARGS
 
-abbrev pub LimitIs : Type 0
-LimitIs = args_limit ≡ 32
+-- how many arguments there are at most, and how large their numbers are
+pub record LimitsAre : Type 0 where
+  pub args : args_limit ≡ 32
+  pub sizes : size_limit ≡ 2147483647
 
 -- the first refusal that holds of the arguments that a text spells
 abbrev pub refusal : List SliceArg → Option SliceFault

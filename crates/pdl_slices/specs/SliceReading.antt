@@ -14,7 +14,7 @@ use Rattle.pdl_slices.specs.declared.reading.Place.{Place}
 use Rattle.pdl_slices.specs.declared.reading.TooLarge.{TooLarge}
 use Rattle.std.specs.Char.{is_ascii_digit}
 use Rattle.pdl_slices.specs.Grammar.{is_blank}
-use Rattle.pdl_slices.specs.Refusals.{is_large, has_large_number}
+use Rattle.pdl_slices.specs.Refusals.{size_limit, is_large, has_large_number}
 
 -- what a byte can be
 abbrev pub kind_of : ℕ → Kind
@@ -31,7 +31,7 @@ kind_of b =
 
 -- one more digit, cut at the first size that is too large
 abbrev pub more_digits : ℕ → ℕ → ℕ
-more_digits size digit = min (10 * size + digit) 2147483648
+more_digits size digit = min (10 * size + digit) (size_limit + 1)
 
 -- the number of this sign and size
 abbrev pub with_sign : Bool → ℕ → ℤ

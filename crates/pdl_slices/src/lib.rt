@@ -2,7 +2,7 @@
 #![tactic(auto)]
 
 ghost use Rattle.std.specs.Prelude.{◌≡◌, ◌≢◌, ◌<◌, ◌^◌, ◌++◌, ◌∷◌, [], length, IfOk, IfErr, OnOk, OnErr, MatchResult};
-ghost use Rattle.pdl_slices.specs.Refusals.{IsRead, IsFaultOf, LimitIs};
+ghost use Rattle.pdl_slices.specs.Refusals.{IsRead, IsFaultOf, LimitsAre};
 ghost use Rattle.pdl_slices.specs.Meaning.{TextsHaveOneMeaning};
 ghost use Rattle.pdl_slices.specs.Written.{WrittenTextsAreRead};
 ghost use Rattle.pdl_slices.specs.declared.SliceFault.{SliceFault};
@@ -12,6 +12,7 @@ mod reading;
 
 pub use reader::MOST_ARGS;
 use reader::Reader;
+pub use reading::LARGEST_SIZE;
 use std::alloc::{AllocError, Global};
 use std::marker::Model;
 
@@ -42,9 +43,9 @@ pub enum SliceFault {
     /// The text isn't a slice text. The longest prefix that some slice text
     /// begins with has `at` bytes.
     BadText { at: u32 },
-    /// More than 32 arguments.
+    /// More than `MOST_ARGS` arguments.
     TooManyArgs,
-    /// A number's size is above 2147483647.
+    /// A number's size is above `LARGEST_SIZE`.
     NumberTooLarge,
     /// A span has the step 0.
     ZeroStep,
@@ -139,7 +140,7 @@ pub fn written_slices()
     slice_meaning();
 }
 
-/// A text has at most 32 arguments.
+/// A text has at most 32 arguments, and the size of a number is at most 2147483647.
 pub fn limits_law()
-    ensures { LimitIs }
+    ensures { LimitsAre }
 {}

@@ -56,12 +56,15 @@ pub struct Place {
     pub part: NumberSoFar,
 }
 
-/// A number's size is above 2147483647.
+/// The greatest size that a number may have.
+pub const LARGEST_SIZE: u32 = 2_147_483_647;
+
+/// A number's size is above that.
 #[derive(Clone, Copy, Debug)]
 pub struct TooLarge;
 
 /// A size that stands for all that are too large.
-const TOO_LARGE: u32 = 2_147_483_648;
+const TOO_LARGE: u32 = LARGEST_SIZE + 1;
 
 pub fn kind_of(byte: u8) -> Kind
     ensures { result ≡ kind_of byte }

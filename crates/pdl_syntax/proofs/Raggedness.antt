@@ -1,6 +1,6 @@
 -- The statement that lexemes spell has a ragged list exactly where they hold one.
 use Rattle.std.proofs.Common.{◌≡◌, ℕ, ℤ, suc, ◌*◌, List, [], ◌∷◌, ◌++◌, length, Bool, true, false, ◌||◌, not, Option, Some, None, refl, ap, sym, ◌∙◌, arith, eq-eqb, ne_eqb}
-use Rattle.std.proofs.Math.Bool.{or_assoc}
+use Rattle.std.proofs.Math.Bool.{or_assoc, or-false}
 use Rattle.std.specs.List.{list_any}
 use Rattle.pdl_shape.specs.Shape.{size_of}
 use Rattle.pdl_lexemes.specs.declared.Lexeme.{Lexeme}
@@ -18,12 +18,8 @@ use Rattle.pdl_syntax.specs.Ragged.{is_ragged, are_ragged, in_views, in_statemen
 use Rattle.pdl_syntax.specs.StatementTree.{StatementTree, View}
 use Rattle.pdl_syntax.specs.Statements.{SpellsBrackets, no_brackets, brackets, SpellsNames, one_name, more_names, SpellsViews, no_views, one_view, SpellsText, plain_text, labelled, SpellsCalled, by_word, by_method, SpellsBinding, binds_value, binds_severed, binds_names, SpellsStatement, binds, my_binds, assigns, shows_text, shows, shows_info, severs, reshapes, undefs, lists_names, dumps, flows, defines, watches, unwatches}
 
-or_none : (b : Bool) → (b || false) ≡ b
-or_none true = refl
-or_none false = refl
-
 pub any_last : {A : Type 0} (p : A → Bool) (xs : List A) (y : A) → list_any p (xs ++ y ∷ []) ≡ (list_any p xs || p y)
-any_last p [] y = or_none (p y)
+any_last p [] y = or-false (p y)
 any_last p (x ∷ xs) y = ap (λ b. p x || b) (any_last p xs y) ∙ sym (or_assoc (p x) (list_any p xs) (p y))
 
 -- a ragged list is no array, and each other one is
@@ -102,16 +98,16 @@ module _ (scan : RaggedIsScanned) (arrays : ListsAreArrays) where
 
   called_scanned : {source : List ℕ} {t : Tree} {ts : List Lexeme} → SpellsCalled source t ts → ragged_in ts ≡ is_ragged t
   called_scanned (by_word {kind = kind} {w = w} {args = args} {ts = ts} h) =
-      scan.passes (Word kind w) (Open ∷ ts) refl ∙ scan.passes Open ts refl ∙ counts h ∙ or_none (are_ragged args)
+      scan.passes (Word kind w) (Open ∷ ts) refl ∙ scan.passes Open ts refl ∙ counts h ∙ or-false (are_ragged args)
   called_scanned (by_method {t = t} {kind = kind} {w = w} {args = args} {us = us} h k) =
-      counts h ∙ ap (λ u. is_ragged t || u) (scan.passes Arrow (Word kind w ∷ us) refl ∙ scan.passes (Word kind w) us refl) ∙ counts k ∙ or_none (are_ragged args)
+      counts h ∙ ap (λ u. is_ragged t || u) (scan.passes Arrow (Word kind w ∷ us) refl ∙ scan.passes (Word kind w) us refl) ∙ counts k ∙ or-false (are_ragged args)
 
   -- a value up to the end, or before a word and brackets
   value_scanned : {source : List ℕ} {l : ℕ} {t : Tree} {ts : List Lexeme} → Spells source (an_expr l t) ts [] → ragged_in ts ≡ is_ragged t
-  value_scanned {t = t} h = counts h ∙ or_none (is_ragged t)
+  value_scanned {t = t} h = counts h ∙ or-false (is_ragged t)
 
   before_scanned : {source : List ℕ} {t : Tree} {ts : List Lexeme} (rest : List Lexeme) → Spells source (a_postfix t) ts rest → ragged_in rest ≡ false → ragged_in ts ≡ is_ragged t
-  before_scanned {t = t} rest h none = counts h ∙ ap (λ u. is_ragged t || u) none ∙ or_none (is_ragged t)
+  before_scanned {t = t} rest h none = counts h ∙ ap (λ u. is_ragged t || u) none ∙ or-false (is_ragged t)
 
   binding_scanned : {source : List ℕ} {s : StatementTree} {ts : List Lexeme} → SpellsBinding source s ts → ragged_in ts ≡ in_statement s
   binding_scanned (binds_value {w = w} {ts = ts} h) = scan.passes (Name w) (Equals ∷ ts) refl ∙ scan.passes Equals ts refl ∙ value_scanned h
@@ -136,7 +132,7 @@ module _ (scan : RaggedIsScanned) (arrays : ListsAreArrays) where
       scan.passes (Name w) (Arrow ∷ Keyword Sever ∷ us) refl ∙ scan.passes Arrow (Keyword Sever ∷ us) refl ∙ scan.passes (Keyword Sever) us refl ∙ brackets_scanned b
   statement_scanned (reshapes {w = w} {args = args} {ts = ts} h) =
       scan.passes (Name w) (Arrow ∷ Keyword Reshape ∷ Open ∷ ts) refl ∙ scan.passes Arrow (Keyword Reshape ∷ Open ∷ ts) refl
-      ∙ scan.passes (Keyword Reshape) (Open ∷ ts) refl ∙ scan.passes Open ts refl ∙ counts h ∙ or_none (are_ragged args)
+      ∙ scan.passes (Keyword Reshape) (Open ∷ ts) refl ∙ scan.passes Open ts refl ∙ counts h ∙ or-false (are_ragged args)
   statement_scanned (undefs {w = w}) = scan.passes (Keyword Undef) (Name w ∷ []) refl ∙ scan.passes (Name w) [] refl
   statement_scanned lists_names = scan.passes (Keyword Vars) [] refl
   statement_scanned dumps = scan.passes (Keyword Dump) [] refl

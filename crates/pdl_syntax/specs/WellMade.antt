@@ -3,15 +3,16 @@
 -- of a list binding is a call, and that of a flow a formula.
 use Rattle.std.specs.Prelude.{◌≡◌, ◌≤ℤ◌, ℤ, pos, true, All}
 use Rattle.pdl_buf.specs.Made.{IsMade}
+use Rattle.pdl_lexemes.specs.Limits.{number_limit}
 use Rattle.pdl_lexemes.specs.Texts.{IsName, IsQuotable}
 use Rattle.pdl_syntax.specs.Tree.{Tree, Args, number, named, literal, unary, binary, call, none, value, text, of_type}
 use Rattle.pdl_syntax.specs.Formulas.{is_formula}
 use Rattle.pdl_syntax.specs.StatementTree.{StatementTree, bind, bind_list, assign, show, show_text, sever, reshape, undef, vars, dump, flow, pp_def, watch, unwatch}
 
--- a number from 0 to 9223372036854775807
+-- a number from 0 to the greatest one of a text
 pub record IsCount (z : ℤ) : Type 0 where
   pub least : pos 0 ≤ℤ z
-  pub most : z ≤ℤ pos 9223372036854775807
+  pub most : z ≤ℤ pos number_limit
 
 abbrev mutual
   -- each literal in an expression is an array

@@ -13,7 +13,7 @@ use crate::tree::Expr;
 use pdl_buf::{Elements, Made};
 use pdl_elem::Ty;
 use pdl_lexemes::list::Row;
-use pdl_lexemes::{Lexeme, Lexemes, Refusal, list};
+use pdl_lexemes::{LARGEST_LONG, Lexeme, Lexemes, Refusal, list};
 use pdl_shape::{Dims, dims_within};
 use std::alloc::{AllocError, Global};
 
@@ -70,7 +70,7 @@ fn type_of(elems: &[i64]) -> Ty
     ensures { result ≡ type_of elems.now }
 {
     for z in elems {
-        if z.unsigned_abs() > 2147483647 {
+        if z.unsigned_abs() > LARGEST_LONG {
             return Ty::Longlong;
         }
     }

@@ -48,10 +48,6 @@ if_seen : (o : Option Look) → IsThere o → is_none o ≡ false
 if_seen None h = absurd h
 if_seen (Some m) h = refl
 
-is_lost : (o : Option Look) → is_none o ≡ true → IsThere o → ⊥
-is_lost None h l = l
-is_lost (Some m) h l = cc
-
 pub kept_all : (new w : World) → lost new w ≡ false → (k : ℕ) (d : ArrayDef) → Has w k d → IsLive new k
 kept_all new [] h k d y = absurd y
 kept_all new ((j, e) ∷ w) h k d (inl y) = subst (λ x. IsLive new x) y.0 (seen_if (look new j) ((or_parts (is_none (look new j)) (lost new w) h).0))

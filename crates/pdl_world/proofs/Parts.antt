@@ -3,9 +3,10 @@ use Rattle.std.specs.Prelude.{◌==◌, if◌then◌else◌}
 use Rattle.std.proofs.Common.{suc, zero, ◌≡◌, ℕ, ◌+◌, ◌<◌, ℤ, pos, false, List, [], ◌∷◌, ◌++◌, length, drop, get_or, All, Option, Some, None, inl, inr, refl, sym, ◌∙◌, ap, arith}
 use Rattle.std.specs.Option.{option_map_or}
 use Rattle.std.proofs.Math.Seq.{drop-nil}
-use Rattle.std.proofs.lemmas.Bool.{cases_lt, ne_eqb}
+use Rattle.std.proofs.lemmas.Bool.{ne_eqb}
 use Rattle.std.proofs.lemmas.Bool.Decides.{eqb_tells}
-use Rattle.std.proofs.lemmas.List.{get_or-drop, get_or_past, drop-map}
+use Rattle.std.proofs.lemmas.List.{get_or-drop, drop-map}
+use Rattle.pdl_lemmas.specs.Lists.{entry_inside}
 use Rattle.pdl_elem.specs.declared.Ty.TheVariants.{Byte}
 use Rattle.pdl_elem.specs.Types.{InRange}
 use Rattle.pdl_shape.specs.Laws.{WriteLaws}
@@ -166,14 +167,8 @@ parts_leave_later laws = λ w v u first l m vs h g ahead. elim (eqb_tells m.root
       ap (drop n) (others_seen w v u first l m vs h g (λ e. t.1 (sym (seen_root w u m g) ∙ e ∙ seen_root w v l h))))
 ]
 
-inside : (ps : List (Option ℕ)) (k i : ℕ) → get_or ps k None ≡ Some i → k < length ps
-inside ps k i e = elim (cases_lt k (length ps)) [
-  | inl low ↦ low
-  | inr past ↦ (let n : None ≡ Some i = sym (get_or_past ps k None past) ∙ e in cc)
-]
-
 pub once_is_before : (ps : List (Option ℕ)) → has_repeats ps ≡ false → IsReadBefore ps ps
-once_is_before ps r = λ j k i a e g. apart ps r j k i a (inside ps k i g) e g
+once_is_before ps r = λ j k i a e g. apart ps r j k i a (entry_inside ps k i g) e g
 
 pub parts_leave_rest : WriteLaws → PartsLeaveRest
 parts_leave_rest laws = λ w v first l vs h r. parts_leave_later laws w v v first l l vs h h (once_is_before l.places r)

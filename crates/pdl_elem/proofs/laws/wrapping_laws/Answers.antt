@@ -1,7 +1,7 @@
-use Rattle.pdl_elem.proofs.Ranges.{in_longlong}
+use Rattle.pdl_elem.proofs.Ranges.{in_longlong, only_longlong}
 use Rattle.pdl_elem.proofs.Unwrapped.{wrapped_same, zero_in_range}
 use Rattle.pdl_elem.proofs.Wrapping.{wraps, wrapped_int_wrap}
 use Rattle.pdl_elem.proofs.laws.wrapping_laws.Goals as goal
 
 pub returns : goal.returns
-returns c = record { in_range = λ t n. (wraps t n).in_range; same = wrapped_same; late = wrapped_int_wrap; zero = zero_in_range; widest = in_longlong }
+returns c = record { in_range = λ t n. (wraps t n).in_range; same = wrapped_same; late = wrapped_int_wrap; zero = zero_in_range; widest = in_longlong; least = only_longlong }

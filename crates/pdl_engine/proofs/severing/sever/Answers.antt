@@ -11,7 +11,7 @@ use Rattle.pdl_nodes.specs.Row.{Row}
 use Rattle.pdl_nodes.specs.Worlds.{world_of}
 use Rattle.pdl_engine.specs.Loose.{listed_with}
 use Rattle.pdl_engine.proofs.Readied.{ready_then, IsFreshly, others_on, settled_on, only_ready, freshly, ready_steps, below_ready, ready_fresh}
-use Rattle.pdl_engine.proofs.Renews.{RenewFacts, first_all, root_uncut, renewed_settled, all_steps, renewed_fresh, can_cut, was_renewed, cut_world}
+use Rattle.pdl_engine.proofs.Renews.{RenewFacts, first_all, root_uncut, renewed_bases, renewed_settled, all_steps, renewed_fresh, can_cut, was_renewed, cut_world}
 use Rattle.pdl_engine.proofs.Tight.{listed_alike, none_listed}
 use Rattle.pdl_engine.proofs.severing.sever.Goals as goal
 
@@ -100,6 +100,35 @@ returns-clause-severed g c =
     es in
     let made : c.renew.new.self ≡ renew [] c.refresh.new.table c.args.id c.copy_dims-dims.result c.in_ok-kept.kept.elems = c.renew.ensures ∙ ap (λ (ls : Layouts). renew ls c.refresh.new.table c.args.id c.copy_dims-dims.result c.in_ok-kept.kept.elems) c.new.ensures in
     was_renewed c.row_laws.ensures laws [] c.args.table.now c.refresh.new.table c.renew.new.self c.args.id c.copy_dims-dims.result c.in_ok-kept.kept.elems c.requires.order c.requires.sized f (laws.severs c.refresh.new.table c.args.id c.copy_dims-dims.result c.in_ok-kept.kept.elems can es).0 made
+
+pub returns-clause-outdated : goal.returns-clause-outdated
+returns-clause-outdated g c = λ n.
+    let es : c.in_ok-kept.kept.elems ≡ elements (world_of c.refresh.new.table) c.args.id =
+    first_all c.row_laws.ensures c.refresh.new.table c.args.id c.elements_of-count.result c.copy_dims-dims.result c.in_ok-kept.kept.elems c.refresh.ensures.kept.order.still
+    (c.refresh.ensures.kept.alike.has_is c.args.id ∙ c.settle.ensures.settled.ready.alike.has_is c.args.id ∙ c.requires.live)
+    c.elements_of-count.ensures.count (c.copy_dims-dims.ensures ∙ ap (λ (t : Triple). t.dims) (c.behind-node.view_is ∙ c.triple.ensures ∙ ap (λ (r : Row). r.triple) c.node-2.ensures)) (ap (λ (k : TypedElements). k.elems) c.in_ok-kept.ensures.value) in
+    let laws : RenewFacts = record {
+      roots = c.renewed_row_laws.ensures.roots;
+      reshapes = c.renewed_row_laws.ensures.reshapes;
+      severs = c.renewed_row_laws.ensures.severs;
+      relaid = c.renewed_row_laws.ensures.relaid;
+      stay = c.renewed_row_laws.ensures.stay;
+      outdated = c.renewed_row_laws.ensures.outdated;
+      others = c.renewed_row_laws.ensures.others;
+      families = c.renewed_row_laws.ensures.families;
+      settled = c.renewed_row_laws.ensures.settled;
+      known = c.renewed_row_laws.ensures.known;
+      sized = c.renewed_row_laws.ensures.sized;
+      numbers = c.renewed_row_laws.ensures.numbers;
+      makes = c.renewed_row_laws.ensures.makes;
+    } in
+    let f : IsFreshly c.args.table.now c.refresh.new.table c.args.id = freshly c.row_laws.ensures c.args.table.now c.settle.new.table c.refresh.new.table c.args.id c.requires.order c.requires.sized c.requires.live c.settle.ensures.settled c.refresh.ensures.kept
+    (c.row_laws.ensures.seen.path_first c.refresh.new.table c.args.id c.refresh.ensures.kept.order.still (c.refresh.ensures.kept.alike.has_is c.args.id ∙ c.settle.ensures.settled.ready.alike.has_is c.args.id ∙ c.requires.live) c.in_ok-refresh.ensures.fresh) in
+    let can : CanCut c.refresh.new.table c.args.id c.copy_dims-dims.result c.in_ok-kept.kept.elems = can_cut c.row_laws.ensures c.args.table.now c.refresh.new.table c.args.id c.copy_dims-dims.result c.in_ok-kept.kept.elems f
+    (c.copy_dims-dims.ensures ∙ ap (λ (t : Triple). t.dims) (c.behind-node.view_is ∙ c.triple.ensures ∙ ap (λ (r : Row). r.triple) c.node-2.ensures))
+    es in
+    let made : c.renew.new.self ≡ renew [] c.refresh.new.table c.args.id c.copy_dims-dims.result c.in_ok-kept.kept.elems = c.renew.ensures ∙ ap (λ (ls : Layouts). renew ls c.refresh.new.table c.args.id c.copy_dims-dims.result c.in_ok-kept.kept.elems) c.new.ensures in
+    renewed_bases laws [] c.refresh.new.table c.renew.new.self c.args.id c.copy_dims-dims.result c.in_ok-kept.kept.elems (laws.severs c.refresh.new.table c.args.id c.copy_dims-dims.result c.in_ok-kept.kept.elems can es).0 made
 
 pub returns-clause-ok : goal.returns-clause-ok
 returns-clause-ok g c =
@@ -246,3 +275,6 @@ returns-clause-listed g c = c.in_ok-kept.ensures.listed ∙ listed_alike c.args.
 
 pub returns-then-root-id-clause-listed : goal.returns-then-root-id-clause-listed
 returns-then-root-id-clause-listed g c = none_listed c.row_laws.ensures c.args.table.now c.args.holds.now c.args.loose.now.items c.args.id c.requires.order.still c.requires.live (ap (λ (r : Row). r.root) (sym c.node.ensures) ∙ sym c.root.ensures ∙ c.if-root-id.true)
+
+pub returns-then-root-id-clause-outdated : goal.returns-then-root-id-clause-outdated
+returns-then-root-id-clause-outdated g c = λ n. absurd (n (ap (λ (r : Row). r.root) (sym c.node.ensures) ∙ sym c.root.ensures ∙ c.if-root-id.true))

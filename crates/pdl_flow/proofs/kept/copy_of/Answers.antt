@@ -20,5 +20,5 @@ returns-clause-value c =
     let w : Window = c.args.window.now in
     let kept : converted w.ty (array_of w) ≡ array_of w =
     ap (λ (es : List ℤ). array_of (record w { elems = es })) (wrapped_stay c.wrapping_laws.ensures w.ty w.elems c.strided_is_in_range.ensures) in
-    IfOk-weaker c.convert.result (λ (m : Made). m ≡ converted c.strided_type.result (array_of w)) (λ (m : Made). m ≡ array_of w)
-    (λ m is. is ∙ ap (λ (ty : Ty). converted ty (array_of w)) c.strided_type.ensures ∙ kept) c.convert.ensures.value
+    IfOk-weaker c.convert_kept.result (λ (m : Made). m ≡ converted c.strided_type.result (array_of w)) (λ (m : Made). m ≡ array_of w)
+    (λ m is. is ∙ ap (λ (ty : Ty). converted ty (array_of w)) c.strided_type.ensures ∙ kept) c.convert_kept.ensures.value

@@ -11,8 +11,8 @@ use Rattle.pdl_image.proofs.Filling.{piece_added, piece_refused, piece_small, pa
 use Rattle.pdl_image.proofs.Masking.{mask_len, piece_of_mask}
 use Rattle.pdl_image.proofs.masks.add_mask.Goals as goal
 
-pub add_piece-requires-clause-small : goal.add_piece-requires-clause-small
-add_piece-requires-clause-small c =
+pub add_piece-requires : goal.add_piece-requires
+add_piece-requires c =
     let n : ℕ = size_of c.args.dims.now in
     let k : ℕ = c.loop-k.k in
     let mask = mask_of n c.args.places.now in
@@ -49,5 +49,5 @@ returns c =
     let mask = mask_of n c.args.places.now in
     let whole : c.elements_of-count.result ≡ length mask = c.elements_of-count.ensures.count ∙ sym (mask_len n c.args.places.now) in
     let last : c.loop-k.k ≡ c.piece_count-k-end.result = omega (arith, c.loop-k.auto.k-end, c.loop-k-test.false) in
-    subst (λ (k : ℕ). Adds c.args.text.now.items c.loop-k.text.items (root_line c.args.name.now Byte c.args.dims.now ∷ flat_map (piece_lines c.args.name.now mask) (range_with_len 0 k)) (Ok tt))
+    subst (λ (k : ℕ). Adds c.args.draft.now c.loop-k.draft (root_line c.args.name.now Byte c.args.dims.now ∷ flat_map (piece_lines c.args.name.now mask) (range_with_len 0 k)) (Ok tt))
     (last ∙ c.piece_count-k-end.ensures ∙ ap piece_count whole) c.loop-k.invariant

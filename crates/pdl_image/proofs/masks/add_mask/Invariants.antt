@@ -11,5 +11,5 @@ use Rattle.pdl_image.proofs.masks.add_mask.Given as goal
 -- the pieces before this one
 abbrev pub invariant-loop-k : goal.invariant-loop-k
 invariant-loop-k l =
-    Adds l.fn.text.items l.text.items
+    Adds l.fn.draft l.draft
     (root_line l.name Byte l.dims ∷ flat_map (piece_lines l.name (mask_of (size_of l.dims) l.places)) (range_with_len 0 l.k)) (Ok tt)

@@ -11,5 +11,5 @@ returns c =
     let fits : FitsSigned w64 c.args.number = search rules in
     let least : is_least c.args.number ≡ true =
     ap is_least (sym (to_z-of_z w64 c.args.number fits)) ∙ ap (λ (n : ℕ). is_least (to_z w64 n)) c.if-number-neminus9223372036854775808.false in
-    subst (λ b. Adds c.args.text.now.items c.add_line.new.text.items (cond b (least_line c.args.name.now c.args.position ∷ []) []) c.add_line.result) (sym least)
-    (c.add_line.ensures.adds (least_line c.args.name.now c.args.position) c.in_ok-line.ensures)
+    subst (λ b. Adds c.args.draft.now c.add_least.new.self (cond b (least_line c.args.name.now c.args.position ∷ []) []) c.add_least.result) (sym least)
+    c.add_least.ensures

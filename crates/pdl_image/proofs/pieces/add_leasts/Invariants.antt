@@ -5,4 +5,4 @@ use Rattle.pdl_image.proofs.pieces.add_leasts.Given as goal
 
 -- the lines of the numbers before this one
 abbrev pub invariant-loop-i : goal.invariant-loop-i
-invariant-loop-i l = Adds l.fn.text.items l.text.items (least_lines l.name l.first (take l.i l.numbers)) (Ok tt)
+invariant-loop-i l = Adds l.fn.draft l.draft (least_lines l.name l.first (take l.i l.numbers)) (Ok tt)

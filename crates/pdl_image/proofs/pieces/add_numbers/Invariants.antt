@@ -9,5 +9,5 @@ use Rattle.pdl_image.proofs.pieces.add_numbers.Given as goal
 -- the pieces before this one
 abbrev pub invariant-loop-k : goal.invariant-loop-k
 invariant-loop-k l =
-    Adds l.fn.text.items l.text.items
+    Adds l.fn.draft l.draft
     (root_line l.name l.fn.ty l.dims ∷ flat_map (piece_lines l.name l.numbers) (range_with_len 0 l.k)) (Ok tt)

@@ -3,8 +3,8 @@ use Rattle.pdl_image.specs.Dump.{piece_count}
 use Rattle.pdl_image.proofs.Filling.{piece_added, piece_refused, piece_small, passed_on}
 use Rattle.pdl_image.proofs.pieces.add_root.Goals as goal
 
-pub add_piece-requires-clause-small : goal.add_piece-requires-clause-small
-add_piece-requires-clause-small c =
+pub add_piece-requires : goal.add_piece-requires
+add_piece-requires c =
     let whole : c.elements_of.result ≡ length c.args.elems.now.elems = cc in
     let below : c.loop-k.k < piece_count (length c.args.elems.now.elems) =
     subst (λ (n : ℕ). c.loop-k.k < piece_count n) whole (subst (λ (n : ℕ). c.loop-k.k < n) c.piece_count-k-end.ensures c.loop-k-test.true) in

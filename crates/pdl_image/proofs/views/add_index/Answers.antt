@@ -6,4 +6,4 @@ use Rattle.pdl_image.proofs.views.add_index.Goals as goal
 pub returns : goal.returns
 returns c =
     let l = view_line c.args.name.now c.args.parent.now (chosen (codes "index") c.args.index.now) in
-    adds_then _ _ _ _ (l ∷ undef_line c.args.index.now ∷ []) _ _ c.in_ok-add_numbers.ensures (c.add_call.ensures l c.in_ok-line.ensures)
+    adds_then _ _ _ _ (l ∷ undef_line c.args.index.now ∷ []) _ _ c.in_ok-add_numbers.ensures c.add_choice.ensures

@@ -5,10 +5,10 @@ use Rattle.pdl_image.proofs.Adding.{adds_then}
 use Rattle.pdl_image.proofs.Masking.{non_decreasing}
 use Rattle.pdl_image.proofs.views.add_where.Goals as goal
 
-pub add_mask-requires-clause-rises : goal.add_mask-requires-clause-rises
-add_mask-requires-clause-rises c = non_decreasing 0 (size_of c.args.dims.now) c.args.places.now c.requires.rises
+pub add_mask-requires : goal.add_mask-requires
+add_mask-requires c = non_decreasing 0 (size_of c.args.dims.now) c.args.places.now c.requires
 
 pub returns : goal.returns
 returns c =
     let l = view_line c.args.name.now c.args.parent.now (chosen (codes "where") c.args.index.now) in
-    adds_then _ _ _ _ (l ∷ undef_line c.args.index.now ∷ []) _ _ c.in_ok-add_mask.ensures (c.add_call.ensures l c.in_ok-line.ensures)
+    adds_then _ _ _ _ (l ∷ undef_line c.args.index.now ∷ []) _ _ c.in_ok-add_mask.ensures c.add_choice.ensures

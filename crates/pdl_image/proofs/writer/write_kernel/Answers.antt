@@ -5,4 +5,4 @@ use Rattle.pdl_image.proofs.writer.write_kernel.Goals as goal
 pub returns : goal.returns
 returns c =
     let l = kernel_line c.args.name.now c.args.signature.now c.args.code.now in
-    writes_one _ _ l c.add_line.result (c.add_line.ensures.adds l c.in_ok-line.ensures) c.add_line.ensures.err
+    writes_one _ _ l c.add_kernel.result c.add_kernel.ensures.adds c.add_kernel.ensures.err

@@ -5,4 +5,4 @@ use Rattle.pdl_image.proofs.writer.write_name.Goals as goal
 pub returns : goal.returns
 returns c =
     let l = same_line c.args.name.now c.args.other.now in
-    writes_one _ _ l c.add_line.result (c.add_line.ensures.adds l c.in_ok-line.ensures) c.add_line.ensures.err
+    writes_one _ _ l c.add_same.result c.add_same.ensures.adds c.add_same.ensures.err

@@ -1,5 +1,4 @@
-use Rattle.std.proofs.Common.{◌≡◌, Result, length, arith, subst, sym}
-use Rattle.std.proofs.lemmas.Grind.{common_steps}
+use Rattle.std.proofs.Common.{Result, subst, sym}
 use Rattle.pdl_image.specs.declared.ImageFault.{ImageFault}
 use Rattle.pdl_image.specs.Adding.{Writes}
 use Rattle.pdl_image.specs.Dump.{view_lines}
@@ -9,8 +8,7 @@ use Rattle.pdl_image.proofs.writer.write_view.Goals as goal
 
 pub returns : goal.returns
 returns c =
-    let mark : c.len-mark.result ≡ length c.args.text.now.items = first_of (omega arith, grind (arith, common_steps)) in
     let lines = view_lines c.args.name.now c.args.parent.now c.args.index.now c.args.trans.now in
     let some = view_some c.args.name.now c.args.parent.now c.args.index.now c.args.trans.now in
-    subst (λ (r : Result (Unit {0}) ImageFault). Writes c.args.text.now.items c.settled.new.text.items lines r) (sym c.settled.ensures.result)
-    (writes_by _ _ _ c.len-mark.result lines some.0 some.1.0 c.add_view-done.result some.1.1 c.add_view-done.ensures c.settled.ensures.ok c.settled.ensures.err mark)
+    subst (λ (r : Result (Unit {0}) ImageFault). Writes c.args.draft.now c.settled.new.draft lines r) (sym c.settled.ensures.result)
+    (writes_by _ _ _ c.len-mark.result lines some.0 some.1.0 c.add_view-done.result some.1.1 c.add_view-done.ensures c.settled.ensures.ok c.settled.ensures.err c.len-mark.ensures.count)

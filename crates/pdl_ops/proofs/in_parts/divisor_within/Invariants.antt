@@ -2,12 +2,13 @@
 use Rattle.std.proofs.Common.{◌≡◌, ◌≤◌, ◌-◌, length, map, min, take, None}
 use Rattle.pdl_elem.specs.Blocks.{zero_at}
 use Rattle.pdl_elem.specs.Numbers.{wrapped}
+use Rattle.pdl_ops.specs.declared.operands.TheConstants.{BLOCK}
 use Rattle.pdl_ops.proofs.in_parts.divisor_within.Given as goal
 
 abbrev pub invariant-loop-done : goal.invariant-loop-done
 invariant-loop-done l = record {
   inside : l.done ≤ l.count;
-  room : min (l.count - l.done) 512 ≤ length l.room;
+  room : min (l.count - l.done) BLOCK ≤ length l.room;
   none : zero_at l.fn.op (take l.done (map (wrapped l.ty) l.new.elems)) ≡ None;
 }
 

@@ -4,9 +4,10 @@ use Rattle.std.proofs.lemmas.Int.{to_z-of_z}
 use Rattle.std.specs.Int.{w64}
 use Rattle.std.specs.List.{join_with_byte}
 use Rattle.std.proofs.lemmas.Result.{on_ok_weaker}
+use Rattle.std.proofs.lemmas.List.{take_all}
 use Rattle.pdl_print.specs.Printed.{aligned, spaces}
 use Rattle.pdl_print.proofs.Fronts.{begins_by, begins_then, begins_with}
-use Rattle.pdl_print.proofs.Texts.{join_one, join_more, grown, closed, taken_all}
+use Rattle.pdl_print.proofs.Texts.{join_one, join_more, grown, closed}
 use Rattle.pdl_print.proofs.pieces.push_line.Goals as goal
 
 pub loop-i-init : goal.loop-i-init
@@ -38,7 +39,7 @@ returns-clause-ok c =
     let es : List ℤ = c.args.numbers.now in
     let start : List ℕ = spaces c.args.indent ++ 91 ∷ [] in
     let close : List ℕ = 93 ∷ 10 ∷ [] in
-    let all : take c.loop-i.i es ≡ es = taken_all es c.loop-i.i (omega (arith, c.loop-i-test.false)) in
+    let all : take c.loop-i.i es ≡ es = take_all c.loop-i.i es (omega (arith, c.loop-i-test.false)) in
     on_ok_weaker c.push_bracket-2.result (λ e. e ∙ ap (λ (t : List ℕ). t ++ close) (c.loop-i.invariant ∙ ap (λ (xs : List ℤ). (c.args.into.now.items ++ start) ++ join_with_byte 32 (map (aligned c.args.width) xs)) all)
     ∙ closed c.args.into.now.items start (join_with_byte 32 (map (aligned c.args.width) es)) close) c.push_bracket-2.ensures.ok
 

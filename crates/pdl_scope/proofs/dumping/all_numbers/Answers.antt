@@ -8,8 +8,8 @@ pub loop-next-init : goal.loop-next-init
 loop-next-init c =
     let numbers = array_numbers c.args.engine.now.world in
     record {
-      listed = c.new-ids.ensures.items ∙ ap (λ (ks : List ℕ). take (length ks) numbers) (sym c.new-ids.ensures.items);
-      next_is = c.next_live-next.ensures ∙ first_is numbers ∙ ap (λ (ks : List ℕ). slice_get numbers (length ks)) (sym c.new-ids.ensures.items);
+      listed = c.in_ok-ids.ensures.items ∙ ap (λ (ks : List ℕ). take (length ks) numbers) (sym c.in_ok-ids.ensures.items);
+      next_is = c.next_live-next.ensures ∙ first_is numbers ∙ ap (λ (ks : List ℕ). slice_get numbers (length ks)) (sym c.in_ok-ids.ensures.items);
     }
 
 pub next_live-next-requires-in-Some : goal.next_live-next-requires-in-Some

@@ -13,9 +13,9 @@ use Rattle.pdl_world.specs.World.{World, assign, dims_in, ty_in}
 use Rattle.pdl_machine.specs.Arrays.{Arrays, array_in}
 use Rattle.pdl_machine.specs.Following.{follow}
 use Rattle.pdl_machine.specs.State.{AreLive}
-use Rattle.pdl_scope.specs.Plans.{all_assigned, input_at, planned}
+use Rattle.pdl_scope.specs.Plans.{all_assigned, planned}
 use Rattle.pdl_scope.specs.Scope.{arrays_of}
-use Rattle.pdl_scope.proofs.Followers.{IsFormed, are_inputs, follows_by, formed, made_at, of_inputs, older_live, unrefused}
+use Rattle.pdl_scope.proofs.Followers.{IsFormed, ShowAll, are_inputs, follows_by, formed, inputs_show, made_at, of_inputs, older_live, unrefused}
 use Rattle.pdl_scope.proofs.Growing.{still_live}
 use Rattle.pdl_scope.proofs.Planned.{sound_after}
 use Rattle.pdl_scope.proofs.Plans.{live_after, looks_after}
@@ -35,7 +35,7 @@ evaluate-requires-clause-inputs g c =
     let ks = arrays_in f.formula in
     let b : Arrays = planned (arrays_of e) plan in
     let looks = c.assignment_laws.ensures.looks in
-    let is : c.deref.result.now ≡ map (input_at b) ks = c.deref.ensures.value ∙ c.in_ok-inputs.ensures.inputs ∙ ap (map (input_at b)) c.reads.ensures in
+    let is : ShowAll b c.deref.result.now ks = inputs_show b c.in_ok-inputs.inputs.items c.deref.result.now c.reads.result.now ks c.deref.ensures.value c.reads.ensures c.in_ok-inputs.ensures.inputs in
     let sound : IsSound b.world = sound_after c.assignment_laws.ensures.sound looks e.world e plan (λ v. refl) c.requires.plan.can c.resting_law.ensures.sound in
     let live : AreLive b.world ks = still_live e.world b.world (λ v there. live_after looks e.world plan v there) ks (older_live e.world f.root ks c.requires.flow.older) in
     subst (AreInputs c.deref.result.now) (sym c.formula.ensures) (are_inputs c.dumpable_laws.ensures.shown b f c.deref.result.now sound live is)
@@ -44,30 +44,30 @@ pub returns-in-Ok-clause-follows : goal.returns-in-Ok-clause-follows
 returns-in-Ok-clause-follows g c =
     let b : Arrays = planned (arrays_of c.args.engine.now) c.args.plan.now in
     let f = c.args.flow.now in
-    let is : c.deref.result.now ≡ map (input_at b) (arrays_in f.formula) = c.deref.ensures.value ∙ c.in_ok-inputs.ensures.inputs ∙ ap (map (input_at b)) c.reads.ensures in
+    let is : ShowAll b c.deref.result.now (arrays_in f.formula) = inputs_show b c.in_ok-inputs.inputs.items c.deref.result.now c.reads.result.now (arrays_in f.formula) c.deref.ensures.value c.reads.ensures c.in_ok-inputs.ensures.inputs in
     let value : meaning (array_in b) f.formula ≡ Ok c.in-Ok.made =
     sym (of_inputs c.meaning_laws.ensures b f c.deref.result.now is) ∙ ap (meaning (value_in c.deref.result.now)) (sym c.formula.ensures) ∙ c.in-Ok.ensures.value in
-    IfOk-weaker c.to_vec.result (λ es. es.items ≡ c.in-Ok.made.elems) (λ es. follow b f ≡ record b { world = assign b.world f.root es.items })
-    (λ es same. follows_by b f c.in-Ok.made es.items value same) c.to_vec.ensures
+    IfOk-weaker c.into_vec.result (λ es. es.items ≡ c.in-Ok.made.elems) (λ es. follow b f ≡ record b { world = assign b.world f.root es.items })
+    (λ es same. follows_by b f c.in-Ok.made es.items value same) c.into_vec.ensures
 
 pub returns-in-Ok-clause-made : goal.returns-in-Ok-clause-made
 returns-in-Ok-clause-made g c =
     let a : Arrays = arrays_of c.args.engine.now in
     let b : Arrays = planned a c.args.plan.now in
     let f = c.args.flow.now in
-    let is : c.deref.result.now ≡ map (input_at b) (arrays_in f.formula) = c.deref.ensures.value ∙ c.in_ok-inputs.ensures.inputs ∙ ap (map (input_at b)) c.reads.ensures in
+    let is : ShowAll b c.deref.result.now (arrays_in f.formula) = inputs_show b c.in_ok-inputs.inputs.items c.deref.result.now c.reads.result.now (arrays_in f.formula) c.deref.ensures.value c.reads.ensures c.in_ok-inputs.ensures.inputs in
     let value : meaning (array_in b) f.formula ≡ Ok c.in-Ok.made =
     sym (of_inputs c.meaning_laws.ensures b f c.deref.result.now is) ∙ ap (meaning (value_in c.deref.result.now)) (sym c.formula.ensures) ∙ c.in-Ok.ensures.value in
     let form : IsFormed a b f (meaning (array_in b) f.formula) = formed c.meaning_laws.ensures a b f c.requires.flow (looks_after c.assignment_laws.ensures.looks a.world c.args.plan.now) in
-    IfOk-weaker c.to_vec.result (λ es. es.items ≡ c.in-Ok.made.elems) (λ es. IsMade (ty_in a.world f.root) (dims_in a.world f.root) es.items)
-    (λ es same. made_at a b f c.in-Ok.made es.items form value c.in-Ok.ensures.made same) c.to_vec.ensures
+    IfOk-weaker c.into_vec.result (λ es. es.items ≡ c.in-Ok.made.elems) (λ es. IsMade (ty_in a.world f.root) (dims_in a.world f.root) es.items)
+    (λ es same. made_at a b f c.in-Ok.made es.items form value c.in-Ok.ensures.made same) c.into_vec.ensures
 
 pub out_of_memory-requires : goal.out_of_memory-requires
 out_of_memory-requires g c =
     let a : Arrays = arrays_of c.args.engine.now in
     let b : Arrays = planned a c.args.plan.now in
     let f = c.args.flow.now in
-    let is : c.deref.result.now ≡ map (input_at b) (arrays_in f.formula) = c.deref.ensures.value ∙ c.in_ok-inputs.ensures.inputs ∙ ap (map (input_at b)) c.reads.ensures in
+    let is : ShowAll b c.deref.result.now (arrays_in f.formula) = inputs_show b c.in_ok-inputs.inputs.items c.deref.result.now c.reads.result.now (arrays_in f.formula) c.deref.ensures.value c.reads.ensures c.in_ok-inputs.ensures.inputs in
     let form : IsFormed a b f (meaning (array_in b) f.formula) = formed c.meaning_laws.ensures a b f c.requires.flow (looks_after c.assignment_laws.ensures.looks a.world c.args.plan.now) in
     unrefused (meaning (value_in c.deref.result.now) (tree_of c.formula.result.now)) form.made (refusal_named c.in-Err.fault)
     (ap (meaning (value_in c.deref.result.now)) c.formula.ensures ∙ of_inputs c.meaning_laws.ensures b f c.deref.result.now is ∙ form.is) c.in-Err.ensures.value

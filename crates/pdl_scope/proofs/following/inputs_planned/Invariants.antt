@@ -1,13 +1,16 @@
-use Rattle.std.proofs.Common.{◌≡◌, map, take}
+use Rattle.std.proofs.Common.{◌≡◌, All, take, true}
+use Rattle.std.specs.Prelude.{is_some}
+use Rattle.pdl_flow.specs.Inputs.{input_of}
 use Rattle.pdl_engine.specs.State.{SameArrays, StayFresh}
-use Rattle.pdl_scope.specs.Plans.{input_at, planned}
+use Rattle.pdl_scope.specs.Plans.{AreShown, planned}
 use Rattle.pdl_scope.specs.Scope.{arrays_of}
 use Rattle.pdl_scope.proofs.following.inputs_planned.Given as goal
 
--- the inputs of the arrays before this one are found
+-- the arrays before this one have inputs
 abbrev pub invariant-loop-read : goal.invariant-loop-read
 invariant-loop-read g l = record {
-  inputs : l.inputs.items ≡ map (input_at (planned (arrays_of l.fn.engine) l.plan)) (take l.read-index l.reads);
+  shown : AreShown (planned (arrays_of l.fn.engine) l.plan) l.inputs.items;
+  found : All (λ k. is_some (input_of l.inputs.items k) ≡ true) (take l.read-index l.reads);
   same : SameArrays l.fn.engine l.engine;
   stay : StayFresh l.fn.engine l.engine;
 }

@@ -15,4 +15,4 @@ returns-then-len-ge-MOST_DIM_NAMES-clause-many c = λ e.
     let few : 8 ≤ length names = omega (arith, c.len.ensures, c.if-len-ge-MOST_DIM_NAMES.true) in
     let new : has_name names d.name ≡ false = search rules in
     let many : 8 < length (names_after names (d ∷ drop (i + 1) dims)) = past_dims 8 names d (drop (i + 1) dims) few new in
-    subst (λ (ns : List (List ℕ)). 8 < length ns) (ap (names_after names) (sym (left_at dims i d c.loop-dim-test.true c.dim-item.is)) ∙ c.loop-dim.invariant) many
+    subst (λ (ns : List (List ℕ)). 8 < length ns) (ap (names_after names) (sym (left_at dims i d c.loop-dim-test.true c.dim-item.is)) ∙ c.loop-dim.invariant.same) many

@@ -20,13 +20,13 @@ returns c = record { resolved = answer; solved = answers_solve c.args.signature.
       let fit : list_any (is_unfit c.in_ok-sizes.sizes.items) (cores (handed signature.args given)) ≡ false =
       sym (ap₂ (λ x y. list_any (is_unfit x) y) c.as_slice-3.ensures.value (c.as_slice-4.ensures.value ∙ c.in_ok-cores.ensures ∙ ap (λ x. cores (handed x given)) args_are)) ∙ sym c.if-any_unfit.ensures in
       let joined : Some c.in-Some.broadcast.items ≡ joined_with [] (handed signature.args given) =
-      (rw c.in-Some.is at c.in_ok-broadcast.ensures.joined) ∙ ap (λ x. joined_with [] (handed x given)) args_are in
+      c.in-Some.ensures.joined ∙ ap (λ x. joined_with [] (handed x given)) args_are in
       let same : resolved_by signature.args given c.in_ok-sizes.sizes.items (Some c.in-Some.broadcast.items) ≡ resolution signature given =
       reached signature given c.in_ok-sizes.sizes.items (Some c.in-Some.broadcast.items)
       (record { count = c.if-given-count_inputs.false ∙ c.count_inputs.ensures ∙ ap (λ x. length (inputs x)) args_are; sizes_are = sizes_are; fit = fit; joined_is = joined }) in
       let call : resolved_by c.as_slice-args.result.now given c.as_slice-in-Some.result.now (Some c.as_slice-in-Some-2.result.now) ≡ resolution signature given =
       ap (λ x. resolved_by x given c.as_slice-in-Some.result.now (Some c.as_slice-in-Some-2.result.now)) args_are
-      ∙ ap₂ (λ x y. resolved_by signature.args given x (Some y)) c.as_slice-in-Some.ensures.value c.as_slice-in-Some-2.ensures.value
+      ∙ ap₂ (λ x y. resolved_by signature.args given x (Some y)) c.as_slice-in-Some.ensures.value c.as_slice-in-Some-2.ensures
       ∙ same in
       let P : Result Resolved Unresolved → Type 0 = λ x. Answers x c.resolved_by.result in
       subst P call c.resolved_by.ensures

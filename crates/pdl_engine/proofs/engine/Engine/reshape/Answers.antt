@@ -9,7 +9,7 @@ use Rattle.pdl_nodes.specs.Rows.{Rows, has}
 use Rattle.pdl_engine.specs.Held.{ChangesFamily, FamilyIsSettled}
 use Rattle.pdl_engine.specs.State.{State, StayFresh, outdated, waiting, waiting_size}
 use Rattle.pdl_engine.specs.StateOf.{state_of}
-use Rattle.pdl_engine.proofs.Changed.{below_most, broken_by, changed_engine, changed_settled, changed_state, refused_fresh, steps_are, reshaped_bases, reshaped_sound, reshaped_lent, unchanged_by}
+use Rattle.pdl_engine.proofs.Changed.{below_most, broken_by, changed_engine, changed_settled, changed_state, refused_fresh, steps_are, rooted_bases, reshaped_sound, reshaped_lent, unchanged_by}
 use Rattle.pdl_engine.proofs.Stating.{live_has}
 use Rattle.pdl_engine.proofs.Tight.{tight_reshaped}
 use Rattle.pdl_engine.proofs.engine.Engine.reshape.Goals as goal
@@ -70,7 +70,7 @@ returns-clause-allowed g c = on_ok_weaker c.reshape.result (λ e. sym (ap (λ (s
 
 pub returns-clause-outdated : goal.returns-clause-outdated
 returns-clause-outdated g c = on_ok_weaker c.reshape.result (λ f u l r.
-    reshaped_bases c.row_laws.ensures c.self.inside.table c.reshape.new.table c.self.inside.holds c.self.inside.next c.args.id c.self.invariant.0 c.reshape.ensures.reshaped f u
+    rooted_bases c.row_laws.ensures c.self.inside.table c.reshape.new.table c.self.inside.holds c.self.inside.next c.args.id c.self.invariant.0 c.reshape.ensures.reshaped f u
     (subst (λ (s : State). IsLive s.world u) (sym c.self.view_is) l) r) c.reshape.ensures.outdated
 
 pub returns-clause-broken : goal.returns-clause-broken

@@ -12,7 +12,7 @@ use Rattle.pdl_nodes.specs.Rows.{Rows, has, row_at}
 use Rattle.pdl_engine.specs.Held.{ChangesFamily, FamilyIsSettled}
 use Rattle.pdl_engine.specs.State.{State, StayFresh, outdated, waiting, waiting_size}
 use Rattle.pdl_engine.specs.StateOf.{state_of}
-use Rattle.pdl_engine.proofs.Changed.{changed_engine, changed_settled, changed_state, below_most, refused_fresh, root_fresh, steps_are, severed_sound}
+use Rattle.pdl_engine.proofs.Changed.{changed_engine, changed_settled, changed_state, below_most, refused_fresh, rooted_bases, root_fresh, steps_are, severed_sound}
 use Rattle.pdl_engine.proofs.Stating.{live_has, root_are}
 use Rattle.pdl_engine.proofs.Tight.{tight_severed}
 use Rattle.pdl_engine.proofs.engine.Engine.sever.Goals as goal
@@ -87,3 +87,11 @@ returns-clause-settled g c = λ q.
     subst (λ (s : State). FamilyIsSettled s c.args.id (state_of c.sever.new.table c.self.inside.holds c.self.inside.next)) c.self.view_is
     (changed_settled c.row_laws.ensures c.self.inside.table c.sever.new.table c.self.inside.holds c.self.inside.next c.args.id c.self.invariant.0 h c.sever.ensures.severed
     (c.sever.ensures.settled (λ e. q (ap (λ (s : State). root_of s.world c.args.id) (sym c.self.view_is) ∙ root_are c.row_laws.ensures c.self.inside.table c.args.id c.self.invariant.0.order.still h ∙ e))))
+
+pub returns-clause-outdated : goal.returns-clause-outdated
+returns-clause-outdated g c =
+    let h : has c.self.inside.table c.args.id ≡ true = live_has c.row_laws.ensures c.self.inside.table c.args.id (subst (λ (s : State). IsLive s.world c.args.id) (sym c.self.view_is) c.requires) in
+    on_ok_weaker c.sever.result (λ f d u l r.
+    rooted_bases c.row_laws.ensures c.self.inside.table c.sever.new.table c.self.inside.holds c.self.inside.next c.args.id c.self.invariant.0 c.sever.ensures.severed
+    (f (λ e. d (ap (λ (s : State). root_of s.world c.args.id) (sym c.self.view_is) ∙ root_are c.row_laws.ensures c.self.inside.table c.args.id c.self.invariant.0.order.still h ∙ e)))
+    u (subst (λ (s : State). IsLive s.world u) (sym c.self.view_is) l) r) c.sever.ensures.outdated

@@ -25,7 +25,7 @@ invariant_of-self c =
           e
           (listed_rooted c.args.id c.args.dims.now c.args.kept.elems c.args.self.now c.self.inside.marked),
       counted_rooted c.args.self.now _ c.args.id c.args.dims.now c.args.kept.elems c.self.inside.children c.take.new.self c.parent-parent.result e (table_falls c.args.self.now c.self.inside.keys c.self.inside.nodes c.self.view_is c.self.invariant.0.0) c.requires.live
-          (c.parent-parent.ensures ∙ ap parent_of (node_is c.args.self.now c.self.inside.keys c.self.inside.nodes c.args.id c.index-key.result.now c.index-node.result.now c.self.view_is c.self.invariant.0.0 c.index-key.ensures c.index-node.ensures)) c.take.ensures (counted_same (rows_of c.self.inside.nodes c.self.inside.keys) c.args.self.now c.self.inside.children c.self.view_is c.self.invariant.1),
+          (c.parent-parent.ensures ∙ ap parent_of (node_is c.args.self.now c.self.inside.keys c.self.inside.nodes c.args.id c.index-key.result.now c.index-node.result.now c.self.view_is c.self.invariant.0.0 c.index-key.ensures c.index-node.ensures)) c.take.ensures.less c.take.ensures.older (counted_same (rows_of c.self.inside.nodes c.self.inside.keys) c.args.self.now c.self.inside.children c.self.view_is c.self.invariant.1),
     )
 
 pub take-requires : goal.take-requires

@@ -4,4 +4,4 @@ use Rattle.pdl_nodes.proofs.table.Table.children.Goals as goal
 use Rattle.pdl_nodes.proofs.Counted.{counted_same}
 
 pub returns : goal.returns
-returns c = c.of.ensures ∙ counted_same (rows_of c.self.inside.nodes c.self.inside.keys) c.args.self.now c.self.inside.children c.self.view_is c.self.invariant.1 c.args.id
+returns c = c.of.ensures ∙ (counted_same (rows_of c.self.inside.nodes c.self.inside.keys) c.args.self.now c.self.inside.children c.self.view_is c.self.invariant.1).count c.args.id

@@ -8,12 +8,12 @@ use Rattle.pdl_nodes.proofs.Unmet.{IsPast, past_room}
 use Rattle.pdl_nodes.proofs.table.Table.relaid.Goals as goal
 
 pub next_below-next-requires : goal.next_below-next-requires
-next_below-next-requires c = record { small = has_below c.args.self.now 18446744073709551615 c.args.id c.requires.small c.requires.live }
+next_below-next-requires c = record { small = c.before_views-start.ensures.small (has_below c.args.self.now 18446744073709551615 c.args.id c.requires.small c.requires.live) }
 
 pub loop-next-init : goal.loop-next-init
 loop-next-init c =
     subst (λ (ls : Layouts). IsWalk ls c.args.self.now c.args.id c.args.dims.now c.next_below-next.result c.children-unmet.result) (sym c.new-layouts.ensures)
-    (on_begins c.breaking_laws.ensures.below c.args.self.now c.args.id c.args.dims.now c.children-unmet.result c.next_below-next.result c.requires.sound c.requires.still c.requires.live c.requires.small c.children-unmet.ensures c.next_below-next.ensures)
+    (on_begins c.breaking_laws.ensures.below c.args.self.now c.args.id c.before_views-start.result c.args.dims.now c.children-unmet.result c.next_below-next.result c.requires.sound c.requires.still c.requires.live c.requires.small c.before_views-start.ensures.from c.before_views-start.ensures.views c.children-unmet.ensures c.next_below-next.ensures)
 
 pub relay_in-requires-clause-live : goal.relay_in-requires-clause-live
 relay_in-requires-clause-live c = (next_on c.loop-next.layouts c.args.self.now c.args.id c.args.dims.now c.loop-next.next c.in-Some.newer c.loop-next.invariant.0 c.in-Some.is).live

@@ -58,6 +58,6 @@ invariant_of-self-2 c =
         gone_table c.self.inside.keys c.remove.new.self c.self.inside.nodes c.remove-node.new.self c.args.id c.in-Some.key c.self.invariant.0.0 c.remove.ensures.rises here c.remove.ensures.put c.remove-node.ensures.updates,
         subst (λ (t : Rows). AreListed t c.forget.new.self) (sym e) (listed_gone c.args.self.now c.self.inside.marked c.forget.new.self c.args.id c.forget.ensures.stay (subst (λ (t : Rows). AreListed t c.self.inside.marked) c.self.view_is c.self.invariant.0.1)),
       ),
-      counted_gone c.args.self.now _ c.args.id c.self.inside.children c.take.new.self c.parent-parent.result e (table_falls c.args.self.now c.self.inside.keys c.self.inside.nodes c.self.view_is c.self.invariant.0.0) live p c.take.ensures
+      counted_gone c.args.self.now _ c.args.id c.self.inside.children c.take.new.self c.parent-parent.result e (table_falls c.args.self.now c.self.inside.keys c.self.inside.nodes c.self.view_is c.self.invariant.0.0) live p c.take.ensures.less c.take.ensures.older
           (counted_same (rows_of c.self.inside.nodes c.self.inside.keys) c.args.self.now c.self.inside.children c.self.view_is c.self.invariant.1),
     )

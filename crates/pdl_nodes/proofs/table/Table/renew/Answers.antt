@@ -11,11 +11,11 @@ pub node-requires : goal.node-requires
 node-requires c = record { live = c.requires.can.live }
 
 pub next_below-next-requires : goal.next_below-next-requires
-next_below-next-requires c = record { small = has_below c.args.self.now 18446744073709551615 c.args.id c.requires.small c.requires.can.live }
+next_below-next-requires c = record { small = c.before_views-start.ensures.small (has_below c.args.self.now 18446744073709551615 c.args.id c.requires.small c.requires.can.live) }
 
 pub loop-next-init : goal.loop-next-init
 loop-next-init c = (
-  renewing_begins c.args.layouts c.args.self.now c.args.id c.args.dims.now c.args.kept.elems c.become_root.new.self c.children-unmet.result c.next_below-next.result c.requires.can c.requires.small c.become_root.ensures c.children-unmet.ensures c.next_below-next.ensures,
+  renewing_begins c.args.layouts c.args.self.now c.args.id c.before_views-start.result c.args.dims.now c.args.kept.elems c.become_root.new.self c.children-unmet.result c.next_below-next.result c.requires.can c.requires.small c.before_views-start.ensures.from c.before_views-start.ensures.views c.become_root.ensures c.children-unmet.ensures c.next_below-next.ensures,
   (left_begins c.args.layouts c.next_below-next.result, counted_begins c.args.self.now c.args.id c.args.dims.now c.args.kept.elems c.become_root.new.self c.requires.can.order.still c.requires.can.live c.become_root.ensures),
 )
 

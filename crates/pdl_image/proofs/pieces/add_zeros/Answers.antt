@@ -1,6 +1,0 @@
-use Rattle.pdl_image.specs.Lines.{root_line}
-use Rattle.pdl_image.proofs.pieces.add_zeros.Goals as goal
-
-pub returns : goal.returns
-returns c =
-    c.add_line.ensures.adds (root_line c.args.name.now c.args.ty c.args.dims.now) c.in_ok-line.ensures

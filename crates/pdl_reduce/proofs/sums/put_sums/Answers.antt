@@ -1,0 +1,65 @@
+-- The sums at so many places more.
+use Rattle.std.proofs.Common.{◌≡◌, ℕ, ◌+◌, ◌*◌, ◌%◌, ◌<◌, ◌≤◌, ◌++◌, ℤ, pos, List, length, map, take, drop, get_or, arith, ap, sym, ◌∙◌, length-append, length-drop}
+use Rattle.std.proofs.lemmas.List.{get_or-map, length-map, length-take-le}
+use Rattle.pdl_elem.specs.Numbers.{wrapped}
+use Rattle.pdl_numbers.specs.Typed.{TypedElements}
+use Rattle.pdl_shape.specs.Shape.{size_of}
+use Rattle.pdl_reduce.specs.Blocks.{nth_block, products_at, sum_at}
+use Rattle.pdl_reduce.proofs.Matrix.{range_more}
+use Rattle.pdl_reduce.proofs.ShortRows.{first_some, sum_is}
+use Rattle.pdl_reduce.proofs.sums.put_sums.Goals as goal
+
+pub places_left-few-requires-clause-rows : goal.places_left-few-requires-clause-rows
+places_left-few-requires-clause-rows c =
+    omega (
+      arith,
+      c.elements_of-right_rows.ensures.count,
+      first_some c.args.right_sizes.now c.args.joined.now c.requires.right_first (omega (arith, c.elements_of-total.ensures.count, c.loop-done-test.true)),
+    )
+
+pub places_left-places-requires-clause-rows : goal.places_left-places-requires-clause-rows
+places_left-places-requires-clause-rows c =
+    omega (
+      arith,
+      c.elements_of-left_rows.ensures.count,
+      first_some c.args.left_sizes.now c.args.joined.now c.requires.left_first (omega (arith, c.elements_of-total.ensures.count, c.loop-done-test.true)),
+    )
+
+pub loop-done-preserved : goal.loop-done-preserved
+loop-done-preserved c =
+    let s = c.args.sizes in
+    let d : ℕ = c.loop-done.done in
+    let n : ℕ = c.places_left-places.result in
+    let ls : List ℕ = c.args.left_sizes.now in
+    let rs : List ℕ = c.args.right_sizes.now in
+    let joined : List ℕ = c.args.joined.now in
+    let les : List ℤ = c.args.left.now.elems in
+    let res : List ℤ = c.args.right.now.elems in
+    let P : ℕ → ℤ = products_at c.args.ty s les res ls rs joined in
+    let sums : List ℤ = c.set_sums.new.sums in
+    let ys : List ℤ = c.wrap_all.new.numbers in
+    let some : 0 < size_of joined = omega (arith, c.elements_of-total.ensures.count, c.loop-done-test.true) in
+    let room : n ≤ length c.loop-done.sums = omega (arith, c.loop-done.invariant.sums, c.min.ensures) in
+    let part : length (take n c.loop-done.sums) ≡ n = length-take-le n c.loop-done.sums room in
+    let long : length sums ≡ n = c.set_sums.ensures.count ∙ part in
+    let size : length ys ≡ n = ap (λ (zs : List ℤ). length zs) c.wrap_all.ensures.value ∙ length-map sums (wrapped c.args.ty) ∙ long in
+    let element : (j : ℕ) → j < n → get_or ys j (pos 0) ≡ P (d + j) = λ j h.
+    (let lb : List ℤ = take s.left_depth (drop (j * c.read_rows-left_step.result) c.read_rows-left_step.new.room) in
+    let rb : List ℤ = take s.right_depth (drop (j * c.read_rows-right_step.result) c.read_rows-right_step.new.room) in
+    let l : lb ≡ nth_block c.args.ty s.left_depth les ((d + j) % size_of ls) =
+    c.read_rows-left_step.ensures.rows j h ∙ ap (λ (m : ℕ). nth_block c.args.ty s.left_depth les ((d + j) % m)) c.elements_of-left_rows.ensures.count in
+    let r : rb ≡ nth_block c.args.ty s.right_depth res ((d + j) % size_of rs) =
+    c.read_rows-right_step.ensures.rows j h ∙ ap (λ (m : ℕ). nth_block c.args.ty s.right_depth res ((d + j) % m)) c.elements_of-right_rows.ensures.count in
+    ap (λ (zs : List ℤ). get_or zs j (pos 0)) c.wrap_all.ensures.value
+    ∙ get_or-map (wrapped c.args.ty) sums j (pos 0) (pos 0) (omega (arith, long, h))
+    ∙ ap (wrapped c.args.ty) (c.set_sums.ensures.sums j (omega (arith, part, h)))
+    ∙ c.wrapping_laws.ensures.late c.args.ty (sum_at s lb rb s.depth 0 0)
+    ∙ sum_is c.args.ty s les res ls rs joined (d + j) lb rb c.requires.rows.height c.requires.rows.width c.requires.left_first c.requires.right_first (first_some ls joined c.requires.left_first some) (first_some rs joined c.requires.right_first some) l r) in
+    record {
+      inside = omega (arith, c.min.ensures);
+      left = c.read_rows-left_step.ensures.count ∙ c.loop-done.invariant.left;
+      right = c.read_rows-right_step.ensures.count ∙ c.loop-done.invariant.right;
+      sums = omega (arith, size, room, c.loop-done.invariant.sums, length-append ys (drop n c.loop-done.sums), length-drop n c.loop-done.sums);
+      ty = ap (λ (p : TypedElements). p.ty) c.in_ok-extend.ensures.ok ∙ c.loop-done.invariant.ty;
+      made = ap (λ (p : TypedElements). p.elems) c.in_ok-extend.ensures.ok ∙ ap (λ (zs : List ℤ). zs ++ ys) c.loop-done.invariant.made ∙ sym (range_more P d n ys size element);
+    }
