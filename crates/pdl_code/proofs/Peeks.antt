@@ -1,5 +1,5 @@
 -- What a look at the front says of it.
-use Rattle.std.proofs.Common.{rules, ◌≡◌, ℕ, List, [], ◌∷◌, Option, Some, None, Bool, true, false, nat_eq, if◌then◌else◌, refl, sym, ap, ◌∙◌, subst, eqb-true, eq-eqb}
+use Rattle.std.proofs.Common.{rules, ◌≡◌, ℕ, List, [], ◌∷◌, Option, Some, None, Bool, true, false, nat_eq, if◌then◌else◌, refl, sym, ap, ◌∙◌, subst, eqb-true, eq-eqb, true≢false}
 use Rattle.std.specs.Prelude.{option_map, option_and_then}
 use Rattle.pdl_elem.specs.declared.BinaryOp.{BinaryOp}
 use Rattle.pdl_lemmas.specs.Options.{some_inj, none_some, then_elim, map_elim, choose_elim}
@@ -13,14 +13,31 @@ use Rattle.pdl_code.specs.declared.lexeme.WordKind.TheVariants.{Loop, If, Else, 
 use Rattle.pdl_code.specs.declared.lexeme.NameKind.{NameKind}
 use Rattle.pdl_code.specs.declared.lexeme.NameKind.TheVariants.{Size, Generic}
 use Rattle.pdl_code.specs.declared.lexeme.Lexeme.{Lexeme}
-use Rattle.pdl_code.specs.declared.lexeme.Lexeme.TheVariants.{Name, Word, Open, Close, BlockOpen, FatArrow, Operator}
+use Rattle.pdl_code.specs.declared.lexeme.Lexeme.TheVariants.{Name, Word, Number, Open, Close, BlockOpen, BlockClose, Semicolon, Comma, Equals, FatArrow, Assign, Operator, Prefix, Arrow, Unused}
 use Rattle.pdl_code.specs.declared.names.LocalType.{LocalType}
 use Rattle.pdl_code.specs.declared.names.LocalType.TheVariants.{Generic as OfGeneric}
 use Rattle.pdl_code.specs.Grammar.{SpellsType, type_word, generic_type, assigned}
 use Rattle.pdl_code.specs.CodeReading.{Read, after, after_word, after_name, Declared, after_close, close_at, word_at, plain_at, name_at, type_word_at, generic_at, type_at, operator_at, sign_at, closed_word, bracketed_word, size_at, index_word, access_name, declared_word, declared_at, loop_word, loop_at, after_if, after_else, after_condition}
 
+-- (each pair of cases by a clause: a search would try all its rules at each of them)
 same_is : (a b : Lexeme) → lexeme.ghosts.eq a b ≡ true → b ≡ a
-same_is a b e = search rules
+same_is (Name k s) (Name l t) e = search rules
+same_is (Word k s) (Word l t) e = search rules
+same_is (Number m) (Number n) e = search rules
+same_is Open Open e = refl
+same_is (Close m) (Close n) e = search rules
+same_is BlockOpen BlockOpen e = refl
+same_is BlockClose BlockClose e = refl
+same_is Semicolon Semicolon e = refl
+same_is Comma Comma e = refl
+same_is Equals Equals e = refl
+same_is FatArrow FatArrow e = refl
+same_is (Assign p) (Assign q) e = search rules
+same_is (Operator p) (Operator q) e = search rules
+same_is (Prefix p) (Prefix q) e = search rules
+same_is Arrow Arrow e = refl
+same_is Unused Unused e = refl
+same_is _ _ e = absurd (true≢false (sym e))
 
 -- what follows a sign stands behind it
 pub after_is : (sign : Lexeme) (ts : List Lexeme) {us : List Lexeme} → after sign ts ≡ Some us → ts ≡ sign ∷ us

@@ -15,7 +15,7 @@ use Rattle.pdl_nodes.specs.Outcomes.{waiting_of}
 use Rattle.pdl_pull.specs.Outdated.{outdated as rows_outdated}
 use Rattle.pdl_nodes.specs.Outcomes.{waiting_size as rows_waiting_size}
 use Rattle.pdl_nodes.specs.RowLaws.{RowLaws}
-use Rattle.pdl_nodes.specs.Rows.{Rows, NumbersBelow, row_at, has}
+use Rattle.pdl_nodes.specs.Rows.{Rows, row_at, has}
 use Rattle.pdl_nodes.specs.Worlds.{world_of}
 use Rattle.pdl_engine.specs.Held.{ChangesFamily, FamilyIsSettled}
 use Rattle.pdl_engine.specs.Severed.{BasesAreFresh, ChangesRows, RowsAreSettled, RowsStayFresh}
@@ -36,10 +36,6 @@ changed_engine old new hs n v i s w = record {
   below = below_alike old new n s.numbers_are i.below;
   room = i.room;
 }
-
--- a number's type leaves room for one more
-pub below_most : (facts : RowLaws) → (rs : Rows) (n : ℕ) → n < 18446744073709551616 → NumbersBelow n rs → NumbersBelow 18446744073709551615 rs
-below_most facts rs n l b = facts.numbers.below_more rs n 18446744073709551615 (omega arith) b
 
 -- other families stay
 pub changed_state : (facts : RowLaws) → (old new : Rows) (hs : Counts) (n v : ℕ) → IsEngine old hs n → has old v ≡ true → ChangesRows old v new → ChangesFamily (state_of old hs n) v (state_of new hs n)

@@ -11,11 +11,10 @@ use Rattle.pdl_nodes.specs.Outcomes.{IsReady, outdated_at, waiting_of, waiting_s
 use Rattle.pdl_pull.specs.Outdated.{outdated}
 use Rattle.pdl_push.specs.Settled.{OthersWait, IsSettled}
 use Rattle.pdl_nodes.specs.RowLaws.{RowLaws}
-use Rattle.pdl_nodes.specs.Rows.{Rows, row_at, has, NumbersBelow}
+use Rattle.pdl_nodes.specs.Rows.{Rows, row_at, has}
 use Rattle.pdl_nodes.specs.Sized.{AreSized}
 use Rattle.pdl_nodes.specs.Worlds.{shape}
 use Rattle.pdl_engine.specs.Severed.{RowsStayFresh, RowsAreSettled, ChangesRows}
-use Rattle.pdl_engine.proofs.Kept.{below_alike}
 
 -- what was written back, and then made fresh, is ready
 pub ready_then : (facts : RowLaws) → (a b c : Rows) → IsReady a b → IsKept b c → IsReady a c
@@ -74,9 +73,6 @@ freshly facts old first mid v o z h s k f =
       nothing = ap (λ x. (row_at mid x).waiting) (k.alike.root_is v) ∙ k.waits (row_at first v).root ∙ s.nothing;
       others = others_on old first mid v s k;
     }
-
-pub below_ready : (old mid : Rows) (n : ℕ) → IsReady old mid → NumbersBelow n old → NumbersBelow n mid
-below_ready old mid n r b = below_alike old mid n r.alike.numbers_are b
 
 -- the steps of the two
 pub ready_steps : (facts : RowLaws) → (old first : Rows) (v a b n : ℕ) → IsSettled old v first → a ≡ n + waiting_size old (waiting_of old v) → b ≤ a + outdated first v → b ≤ n + (outdated old v + waiting_size old (waiting_of old v))

@@ -1,6 +1,6 @@
 //! Cutting arrays from their parents, and giving them other dimensions (PDL::Core, sever and
 //! reshape).
-ghost use Rattle.std.specs.Prelude.{◌≡◌, ◌≢◌, ℕ, ◌+◌, ◌-◌, ◌≤◌, ◌^◌, ◌++◌, pos, true, false, length, take, drop, replicate, All, IfOk, IfErr, OnOk, OnErr, is_ok};
+ghost use Rattle.std.specs.Prelude.{◌≡◌, ◌≢◌, ℕ, ◌+◌, ◌≤◌, ◌++◌, pos, true, false, length, take, drop, replicate, All, IfOk, IfErr, OnOk, OnErr, is_ok};
 ghost use Rattle.pdl_elem.specs.Types.{InRange};
 ghost use Rattle.pdl_shape.specs.Shape.{size_of};
 ghost use Rattle.pdl_world.specs.Cut.{breaks, fitted, reshape, sever};
@@ -12,7 +12,7 @@ ghost use Rattle.pdl_nodes.specs.Known.{AreKnown};
 ghost use Rattle.pdl_nodes.specs.Outcomes.{waiting_of, waiting_size};
 ghost use Rattle.pdl_pull.specs.Outdated.{outdated};
 ghost use Rattle.pdl_nodes.specs.Row.{parent_of};
-ghost use Rattle.pdl_nodes.specs.Rows.{NumbersBelow, has, row_at};
+ghost use Rattle.pdl_nodes.specs.Rows.{has, row_at};
 ghost use Rattle.pdl_nodes.specs.Sized.{AreSized};
 ghost use Rattle.pdl_nodes.specs.declared.relaid.RelayFault.TheVariants.{Breaks};
 ghost use Rattle.pdl_nodes.specs.Renewed.{AreRelaid};
@@ -199,7 +199,6 @@ pub fn sever<L: Ledger>(
     requires known { AreKnown table.old }
     requires sized { AreSized table.old }
     requires live { has table.old id ≡ true }
-    requires small { NumbersBelow (2 ^ 64 - 1) table.old }
     ensures root { (row_at table.old id).root ≡ id → table.new ≡ table.old }
     ensures spent { (row_at table.old id).root ≡ id → steps.new ≡ steps.old }
     ensures done { (row_at table.old id).root ≡ id → is_ok result ≡ true }
@@ -226,10 +225,11 @@ pub fn sever<L: Ledger>(
     }
     settle(table, id, steps);
     refresh(table, alloc, id, steps)?;
+    let below = table.below(alloc, id)?;
     let dims = copy_dims(&table.node(id).triple().dims);
     let count = elements_of(&dims);
     let kept = copied_and_listed(table, holds, loose, alloc, id, count, steps)?;
-    table.renew(alloc, id, &dims, kept, Relaid::new(alloc));
+    table.renew(alloc, id, &dims, kept, Relaid::new(alloc), &below);
     Ok(())
 }
 
@@ -251,7 +251,6 @@ fn reshape_relaid<L: Ledger>(
     requires known { AreKnown table.old }
     requires sized { AreSized table.old }
     requires live { has table.old id ≡ true }
-    requires small { NumbersBelow (2 ^ 64 - 1) table.old }
     requires relaid { AreRelaid layouts table.old id dims.now }
     ensures reshaped { ChangesRows table.old id table.new }
     ensures settled { RowsAreSettled table.old id table.new }
@@ -274,8 +273,9 @@ fn reshape_relaid<L: Ledger>(
     let count = elements_of(dims);
     settle(table, id, steps);
     refresh(table, alloc, id, steps)?;
+    let below = table.below(alloc, id)?;
     let kept = copied_and_listed(table, holds, loose, alloc, id, count, steps)?;
-    table.renew(alloc, id, dims, kept, layouts);
+    table.renew(alloc, id, dims, kept, layouts, &below);
     Ok(())
 }
 
@@ -296,7 +296,6 @@ pub fn reshape<L: Ledger>(
     requires sized { AreSized table.old }
     requires sound { IsSound (world_of table.old) }
     requires live { has table.old id ≡ true }
-    requires small { NumbersBelow (2 ^ 64 - 1) table.old }
     ensures reshaped { ChangesRows table.old id table.new }
     ensures settled { OnOk result (RowsAreSettled table.old id table.new) }
     ensures ok { OnOk result (world_of table.new ≡ reshape (world_of table.old) id dims.now) }

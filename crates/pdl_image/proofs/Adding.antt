@@ -2,8 +2,9 @@
 use Rattle.std.proofs.Common.{◌≡◌, ℕ, ◌+◌, ◌≤◌, Bool, true, false, List, [], ◌∷◌, ◌++◌, length, take, length-append, refl, ap, ap₂, sym, ◌∙◌, subst, arith, append_assoc}
 use Rattle.std.specs.Prelude.{nat_lt, ◌||◌, Result, Ok, Err, OnOk, OnErr, codes}
 use Rattle.std.specs.List.{list_any}
-use Rattle.std.proofs.lemmas.Bool.{ltb-false, lt-ltb, ltb-true}
+use Rattle.std.proofs.lemmas.Bool.{le-ltb, ltb-false, lt-ltb, ltb-true}
 use Rattle.std.proofs.lemmas.Grind.{flat_map-append}
+use Rattle.std.proofs.lemmas.List.{append-nil}
 use Rattle.std.proofs.lemmas.List.Folds.{list_any-append}
 use Rattle.std.proofs.Math.Seq.{take-append_seam}
 use Rattle.pdl_lex.specs.Limits.{statement_limit}
@@ -72,6 +73,15 @@ adds_room old new lines u added =
         wrong : true ≡ false → ⊥
         wrong e = cc
     first_false false b e = refl
+
+-- no line behind a text that isn't too long
+pub adds_none : (old : List ℕ) → length old ≤ LONGEST_DUMP → Adds old old [] (Ok tt)
+adds_none old within = record {
+  ok = sym (append-nil old);
+  fits = ap (λ (b : Bool). b || false) (le-ltb LONGEST_DUMP (length old + 0) (omega arith));
+  front = record { rest = []; is = sym (append-nil old) };
+  refused = tt;
+}
 
 -- more lines behind those that were appended
 pub adds_then : (old mid new : List ℕ) (lines others : List Line) (u : Unit {0}) (r : Result (Unit {0}) ImageFault)

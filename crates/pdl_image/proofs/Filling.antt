@@ -1,6 +1,6 @@
 -- Parts of lines and lines, by as many members as were looked at.
 use Rattle.std.proofs.Common.{◌≡◌, ℕ, zero, suc, ◌+◌, ◌-◌, ◌*◌, ◌<◌, min, Bool, true, false, cond, List, [], ◌∷◌, ◌++◌, length, take, drop, get_or, map, ℤ, pos, ◌^◌, refl, ap, ap₂, sym, ◌∙◌, subst, arith, append_assoc}
-use Rattle.std.specs.Prelude.{flat_map, Result, Ok, Err}
+use Rattle.std.specs.Prelude.{flat_map, ◌||◌, Result, Ok, Err, codes, decimal}
 use Rattle.std.specs.Result.{IsErrAnd}
 use Rattle.std.specs.List.{list_any, range_with_len}
 use Rattle.std.proofs.lemmas.Grind.{flat_map-append}
@@ -15,10 +15,10 @@ use Rattle.pdl_world.specs.declared.Trans.{Trans}
 use Rattle.pdl_world.specs.declared.Trans.TheVariants as trans
 use Rattle.pdl_image.specs.declared.ImageFault.{ImageFault}
 use Rattle.pdl_image.specs.declared.TheConstants.{PIECE}
-use Rattle.pdl_image.specs.Lines.{Line, least_line, piece_line, root_line, undef_line, line_text}
-use Rattle.pdl_image.specs.Dump.{is_least, filling_lines, given_lines, least_lines, piece_count, piece_lines, root_lines, undef_lines, view_lines}
+use Rattle.pdl_image.specs.Lines.{Line, least_line, numbers_text, piece_line, root_line, undef_line, line_text}
+use Rattle.pdl_image.specs.Dump.{as_listed, is_least, filling_lines, given_lines, least_lines, piece_count, piece_lines, root_lines, undef_lines, view_lines}
 use Rattle.pdl_image.specs.Stems.{name_at}
-use Rattle.pdl_image.specs.Adding.{Adds, bytes_to, piece_bytes}
+use Rattle.pdl_image.specs.Adding.{Adds, bytes_to}
 use Rattle.pdl_image.proofs.Adding.{adds_first, adds_then}
 
 -- ---- texts of members, each behind a comma
@@ -146,6 +146,15 @@ given_some name first [] e = absurd (wrong e)
 given_some name first (n ∷ ns) e =
     (n, (ns, (refl, ap (λ b. cond b (piece_line name first (first + length ns) n ns ∷ []) []) e)))
 
+pub given_none : (name : List ℕ) (first : ℕ) (ns : List ℤ) → list_any is_set ns ≡ false → given_lines name first ns ≡ []
+given_none name first [] e = refl
+given_none name first (n ∷ ns) e = ap (λ b. cond b (piece_line name first (first + length ns) n ns ∷ []) []) e
+
+-- some number isn't 0 as it stands in a list
+pub any_listed : (ns : List ℤ) → list_any (λ n. is_set (as_listed n)) ns ≡ list_any is_set (map as_listed ns)
+any_listed [] = refl
+any_listed (n ∷ ns) = ap (λ (b : Bool). is_set (as_listed n) || b) (any_listed ns)
+
 -- ---- ends of names
 
 pub undef_more : (stem : List ℕ) (k : ℕ) → undef_lines stem (k + 1) ≡ undef_lines stem k ++ undef_line (name_at stem k) ∷ []
@@ -235,9 +244,24 @@ undef_refused old mid new stem k count name e below is before refused =
 
 -- ---- one piece's line
 
-pub piece_is : (name : List ℕ) (first : ℕ) (ns : List ℤ) (n : ℤ) (more : List ℤ) → ns ≡ n ∷ more → piece_bytes name first ns ≡ line_text (piece_line name first (first + length more) n more)
-piece_is name first ns n more is =
-    ap (piece_bytes name first) is ∙ ap (λ (k : ℕ). bytes_to name first k (n ∷ more)) (last first (length more))
+regroup : (a b c d e f g h : List ℕ) → ((((((a ++ b) ++ c) ++ d) ++ e) ++ f) ++ g) ++ h ≡ a ++ (b ++ (c ++ (d ++ (e ++ (f ++ (g ++ (h ++ [])))))))
+regroup a b c d e f g h = simp (append_assoc, append-nil)
+
+-- the text by its parts, each appended to those before it
+pub piece_text : (begun colon counted opened listed new name : List ℕ) (first last : ℕ) (ns : List ℤ)
+    → begun ≡ (name ++ codes "->flat->slice(\"") ++ decimal first → colon ≡ begun ++ 58 ∷ [] → counted ≡ colon ++ decimal last
+    → opened ≡ counted ++ codes "\") .= pdl [" → listed ≡ opened ++ numbers_text ns → new ≡ listed ++ 93 ∷ [] → new ≡ bytes_to name first last ns
+piece_text begun colon counted opened listed new name first last ns begin one two three four five =
+    five ∙ ap (λ t. t ++ 93 ∷ []) (four ∙ ap (λ t. t ++ numbers_text ns)
+    (three ∙ ap (λ t. t ++ codes "\") .= pdl [") (two ∙ ap (λ t. t ++ decimal last) (one ∙ ap (λ t. t ++ 58 ∷ []) begin))))
+    ∙ regroup name (codes "->flat->slice(\"") (decimal first) (58 ∷ []) (decimal last) (codes "\") .= pdl [") (numbers_text ns) (93 ∷ [])
+
+pub piece_is : (name : List ℕ) (first count : ℕ) (ns : List ℤ) (n : ℤ) (more : List ℤ) → length ns ≡ count → ns ≡ n ∷ more
+    → bytes_to name first (first + count - 1) ns ≡ line_text (piece_line name first (first + length more) n more)
+piece_is name first count ns n more long is =
+    ap (λ (k : ℕ). bytes_to name first (first + k - 1) ns) (sym long)
+    ∙ ap (λ ms. bytes_to name first (first + length ms - 1) ms) is
+    ∙ ap (λ (k : ℕ). bytes_to name first k (n ∷ more)) (last first (length more))
   where
     last : (a m : ℕ) → a + suc m - 1 ≡ a + m
     last a m = omega arith

@@ -1,5 +1,5 @@
 -- What appending lines leaves of a text. Callers of the writer need none of it.
-use Rattle.std.specs.Prelude.{◌≡◌, ◌<◌, ◌≤◌, ◌+◌, ◌-◌, true, false, if◌then◌else◌, List, [], ◌∷◌, ℕ, ℤ, pos, ◌++◌, length, map, codes, decimal, Result, OnOk, OnErr, IfErr}
+use Rattle.std.specs.Prelude.{◌≡◌, ◌<◌, ◌≤◌, true, false, if◌then◌else◌, List, [], ◌∷◌, ℕ, ℤ, pos, ◌++◌, length, map, codes, decimal, Result, OnOk, OnErr, IfErr}
 use Rattle.std.specs.List.{concat, range_with_len}
 use Rattle.pdl_image.specs.declared.ImageFault.{ImageFault}
 use Rattle.pdl_image.specs.declared.ImageFault.TheVariants.{TooLong}
@@ -7,6 +7,11 @@ use Rattle.pdl_image.specs.declared.TheConstants.{LONGEST_DUMP}
 use Rattle.pdl_image.specs.Lines.{Line, numbers_text, script_of}
 use Rattle.pdl_image.specs.Stems.{is_in}
 use Rattle.pdl_image.specs.Dump.{is_too_long}
+
+-- a text, and the line that is made behind it
+pub record PageParts : Type 0 where
+  pub text : List ℕ
+  pub line : List ℕ
 
 -- the text begins with these bytes
 pub record Begins (front text : List ℕ) : Type 0 where
@@ -35,10 +40,6 @@ abbrev pub bytes_to : (name : List ℕ) (first last : ℕ) → List ℤ → List
 bytes_to name first last ns = concat
     (name ∷ codes "->flat->slice(\"" ∷ decimal first ∷ codes ":" ∷ decimal last
     ∷ codes "\") .= pdl [" ∷ numbers_text ns ∷ codes "]" ∷ [])
-
--- and from a first position on
-abbrev pub piece_bytes : (name : List ℕ) (first : ℕ) → List ℤ → List ℕ
-piece_bytes name first ns = bytes_to name first (first + length ns - 1) ns
 
 -- so many numbers of a mask from a first position on: 1 at the listed places
 abbrev pub mask_part : (first count : ℕ) → (places : List ℕ) → List ℤ

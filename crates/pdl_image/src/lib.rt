@@ -12,6 +12,7 @@ mod laws;
 mod lines;
 mod masks;
 mod numbers;
+mod page;
 mod pieces;
 mod stems;
 mod views;

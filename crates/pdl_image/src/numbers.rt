@@ -1,67 +1,99 @@
-//! The parts of lines, each appended to what was there before.
-ghost use Rattle.std.specs.Prelude.{◌≡◌, ◌==◌, ◌∷◌, [], ◌++◌, OnOk, decimal};
+//! The parts of lines, each appended to the line that is made.
+ghost use Rattle.std.specs.Prelude.{◌≡◌, ◌==◌, ◌∷◌, [], ◌++◌, map, OnOk, decimal};
 ghost use Rattle.std.specs.Fmt.{signed_decimal};
 ghost use Rattle.std.specs.List.{list_any};
 ghost use Rattle.pdl_slices.specs.Written.{arg_text, end_text, more_text as more_args_text, slice_text, step_text};
+ghost use Rattle.pdl_image.specs.Dump.{as_listed};
 ghost use Rattle.pdl_image.specs.Lines.{more_text, numbers_text, quote_of, quoted, sizes_text};
 
+use crate::page::Page;
 use itoa::Buffer;
 use pdl_slices::SliceArg;
 use std::alloc::AllocError;
 
-/// Begins a text with these bytes, in place of what was there before.
-pub fn begin(line: &mut Vec<u8>, bytes: &[u8]) -> Result<(), AllocError>
-    ensures { OnOk result (line.new.items ≡ bytes.now) }
+/// A number as it stands in a list: 0 for the least longlong.
+pub fn as_listed(number: i64) -> i64
+    ensures { result ≡ as_listed number }
 {
-    line.clear();
-    line.extend_from_slice(bytes)
+    if number == i64::MIN { 0 } else { number }
 }
 
 /// Appends a number.
-pub fn push_number(line: &mut Vec<u8>, number: i64) -> Result<(), AllocError>
-    ensures { OnOk result (line.new.items ≡ line.old.items ++ signed_decimal number) }
+pub fn push_number(page: &mut Page, number: i64) -> Result<(), AllocError>
+    ensures line { OnOk result (page.new.line ≡ page.old.line ++ signed_decimal number) }
+    ensures text { page.new.text ≡ page.old.text }
 {
     let mut buffer = Buffer::new();
-    line.extend_from_slice(buffer.format(number).as_bytes())
+    page.extend(buffer.format(number).as_bytes())
 }
 
 /// Appends a number that isn't below 0.
-pub fn push_count(line: &mut Vec<u8>, count: u64) -> Result<(), AllocError>
-    ensures { OnOk result (line.new.items ≡ line.old.items ++ decimal count) }
+pub fn push_count(page: &mut Page, count: u64) -> Result<(), AllocError>
+    ensures line { OnOk result (page.new.line ≡ page.old.line ++ decimal count) }
+    ensures text { page.new.text ≡ page.old.text }
 {
     let mut buffer = Buffer::new();
-    line.extend_from_slice(buffer.format(count).as_bytes())
+    page.extend(buffer.format(count).as_bytes())
 }
 
 /// Appends numbers, each behind a comma.
-fn push_more(line: &mut Vec<u8>, numbers: &[i64]) -> Result<(), AllocError>
-    ensures { OnOk result (line.new.items ≡ line.old.items ++ more_text numbers.now) }
+fn push_more(page: &mut Page, numbers: &[i64]) -> Result<(), AllocError>
+    ensures line { OnOk result (page.new.line ≡ page.old.line ++ more_text numbers.now) }
+    ensures text { page.new.text ≡ page.old.text }
 {
     for number in numbers {
-        line.push(b',')?;
-        push_number(line, *number)?;
+        page.push(b',')?;
+        push_number(page, *number)?;
     }
     Ok(())
 }
 
 /// Appends numbers with commas between them.
-pub fn push_numbers(line: &mut Vec<u8>, numbers: &[i64]) -> Result<(), AllocError>
-    ensures { OnOk result (line.new.items ≡ line.old.items ++ numbers_text numbers.now) }
+pub fn push_numbers(page: &mut Page, numbers: &[i64]) -> Result<(), AllocError>
+    ensures line { OnOk result (page.new.line ≡ page.old.line ++ numbers_text numbers.now) }
+    ensures text { page.new.text ≡ page.old.text }
 {
     let [first, more @ ..] = numbers else {
         return Ok(());
     };
-    push_number(line, *first)?;
-    push_more(line, more)
+    push_number(page, *first)?;
+    push_more(page, more)
+}
+
+/// Appends numbers as they stand in a list, each behind a comma.
+fn push_more_listed(page: &mut Page, numbers: &[i64]) -> Result<(), AllocError>
+    ensures line { OnOk result (page.new.line
+        ≡ page.old.line ++ more_text (map as_listed numbers.now)) }
+    ensures text { page.new.text ≡ page.old.text }
+{
+    for number in numbers {
+        page.push(b',')?;
+        push_number(page, as_listed(*number))?;
+    }
+    Ok(())
+}
+
+/// Appends numbers as they stand in a list, with commas between them.
+pub fn push_listed(page: &mut Page, numbers: &[i64]) -> Result<(), AllocError>
+    ensures line { OnOk result (page.new.line
+        ≡ page.old.line ++ numbers_text (map as_listed numbers.now)) }
+    ensures text { page.new.text ≡ page.old.text }
+{
+    let [first, more @ ..] = numbers else {
+        return Ok(());
+    };
+    push_number(page, as_listed(*first))?;
+    push_more_listed(page, more)
 }
 
 /// Appends sizes, each behind a comma.
-pub fn push_sizes(line: &mut Vec<u8>, sizes: &[u32]) -> Result<(), AllocError>
-    ensures { OnOk result (line.new.items ≡ line.old.items ++ sizes_text sizes.now) }
+pub fn push_sizes(page: &mut Page, sizes: &[u32]) -> Result<(), AllocError>
+    ensures line { OnOk result (page.new.line ≡ page.old.line ++ sizes_text sizes.now) }
+    ensures text { page.new.text ≡ page.old.text }
 {
     for size in sizes {
-        line.push(b',')?;
-        push_count(line, u64::from(*size))?;
+        page.push(b',')?;
+        push_count(page, u64::from(*size))?;
     }
     Ok(())
 }
@@ -81,33 +113,36 @@ fn quote_of(text: &[u8]) -> u8
 }
 
 /// Appends a text between two of its quotes.
-pub fn push_quoted(line: &mut Vec<u8>, text: &[u8]) -> Result<(), AllocError>
-    ensures { OnOk result (line.new.items ≡ line.old.items ++ quoted text.now) }
+pub fn push_quoted(page: &mut Page, text: &[u8]) -> Result<(), AllocError>
+    ensures line { OnOk result (page.new.line ≡ page.old.line ++ quoted text.now) }
+    ensures text { page.new.text ≡ page.old.text }
 {
     let quote = quote_of(text);
-    line.push(quote)?;
-    line.extend_from_slice(text)?;
-    Ok(line.push(quote)?)
+    page.push(quote)?;
+    page.extend(text)?;
+    page.push(quote)
 }
 
 /// Appends one end of a span, if it is given.
-fn push_end(line: &mut Vec<u8>, end: Option<i32>) -> Result<(), AllocError>
-    ensures { OnOk result (line.new.items ≡ line.old.items ++ end_text end) }
+fn push_end(page: &mut Page, end: Option<i32>) -> Result<(), AllocError>
+    ensures line { OnOk result (page.new.line ≡ page.old.line ++ end_text end) }
+    ensures text { page.new.text ≡ page.old.text }
 {
     match end {
-        Some(number) => push_number(line, i64::from(number)),
+        Some(number) => push_number(page, i64::from(number)),
         None => Ok(()),
     }
 }
 
 /// Appends a step behind its colon, if it is given.
-fn push_step(line: &mut Vec<u8>, step: Option<i32>) -> Result<(), AllocError>
-    ensures { OnOk result (line.new.items ≡ line.old.items ++ step_text step) }
+fn push_step(page: &mut Page, step: Option<i32>) -> Result<(), AllocError>
+    ensures line { OnOk result (page.new.line ≡ page.old.line ++ step_text step) }
+    ensures text { page.new.text ≡ page.old.text }
 {
     match step {
         Some(number) => {
-            line.push(b':')?;
-            push_number(line, i64::from(number))
+            page.push(b':')?;
+            push_number(page, i64::from(number))
         }
         None => Ok(()),
     }
@@ -115,69 +150,75 @@ fn push_step(line: &mut Vec<u8>, step: Option<i32>) -> Result<(), AllocError>
 
 /// Appends a span.
 fn push_span(
-    line: &mut Vec<u8>,
+    page: &mut Page,
     from: Option<i32>,
     to: Option<i32>,
     step: Option<i32>,
 ) -> Result<(), AllocError>
-    ensures { OnOk result (line.new.items
-        ≡ line.old.items ++ (end_text from ++ 58 ∷ (end_text to ++ step_text step))) }
+    ensures line { OnOk result (page.new.line
+        ≡ page.old.line ++ (end_text from ++ 58 ∷ (end_text to ++ step_text step))) }
+    ensures text { page.new.text ≡ page.old.text }
 {
-    push_end(line, from)?;
-    line.push(b':')?;
-    push_end(line, to)?;
-    push_step(line, step)
+    push_end(page, from)?;
+    page.push(b':')?;
+    push_end(page, to)?;
+    push_step(page, step)
 }
 
 /// Appends a number between round brackets.
-fn push_bracketed(line: &mut Vec<u8>, number: i32) -> Result<(), AllocError>
-    ensures { OnOk result (line.new.items
-        ≡ line.old.items ++ 40 ∷ (signed_decimal number ++ 41 ∷ [])) }
+fn push_bracketed(page: &mut Page, number: i32) -> Result<(), AllocError>
+    ensures line { OnOk result (page.new.line
+        ≡ page.old.line ++ 40 ∷ (signed_decimal number ++ 41 ∷ [])) }
+    ensures text { page.new.text ≡ page.old.text }
 {
-    line.push(b'(')?;
-    push_number(line, i64::from(number))?;
-    Ok(line.push(b')')?)
+    page.push(b'(')?;
+    push_number(page, i64::from(number))?;
+    page.push(b')')
 }
 
 /// Appends the size of a new dimension.
-fn push_starred(line: &mut Vec<u8>, size: u32) -> Result<(), AllocError>
-    ensures { OnOk result (line.new.items ≡ line.old.items ++ 42 ∷ decimal size) }
+fn push_starred(page: &mut Page, size: u32) -> Result<(), AllocError>
+    ensures line { OnOk result (page.new.line ≡ page.old.line ++ 42 ∷ decimal size) }
+    ensures text { page.new.text ≡ page.old.text }
 {
-    line.push(b'*')?;
-    push_count(line, u64::from(size))
+    page.push(b'*')?;
+    push_count(page, u64::from(size))
 }
 
 /// Appends one argument of a slice.
-fn push_arg(line: &mut Vec<u8>, arg: SliceArg) -> Result<(), AllocError>
-    ensures { OnOk result (line.new.items ≡ line.old.items ++ arg_text arg) }
+fn push_arg(page: &mut Page, arg: SliceArg) -> Result<(), AllocError>
+    ensures line { OnOk result (page.new.line ≡ page.old.line ++ arg_text arg) }
+    ensures text { page.new.text ≡ page.old.text }
 {
     match arg {
-        SliceArg::Whole => Ok(line.push(b':')?),
-        SliceArg::One(number) => push_number(line, i64::from(number)),
-        SliceArg::Dropped(number) => push_bracketed(line, number),
-        SliceArg::Dummy(size) => push_starred(line, size),
-        SliceArg::Span { from, to, step } => push_span(line, from, to, step),
+        SliceArg::Whole => page.push(b':'),
+        SliceArg::One(number) => push_number(page, i64::from(number)),
+        SliceArg::Dropped(number) => push_bracketed(page, number),
+        SliceArg::Dummy(size) => push_starred(page, size),
+        SliceArg::Span { from, to, step } => push_span(page, from, to, step),
     }
 }
 
 /// Appends arguments of a slice, each behind a comma.
-fn push_more_args(line: &mut Vec<u8>, args: &[SliceArg]) -> Result<(), AllocError>
-    ensures { OnOk result (line.new.items ≡ line.old.items ++ more_args_text args.now) }
+fn push_more_args(page: &mut Page, args: &[SliceArg]) -> Result<(), AllocError>
+    ensures line { OnOk result (page.new.line ≡ page.old.line ++ more_args_text args.now) }
+    ensures text { page.new.text ≡ page.old.text }
 {
     for arg in args {
-        line.push(b',')?;
-        push_arg(line, *arg)?;
+        page.push(b',')?;
+        push_arg(page, *arg)?;
     }
     Ok(())
 }
 
 /// Appends the text of a slice.
-pub fn push_slice(line: &mut Vec<u8>, args: &[SliceArg]) -> Result<(), AllocError>
-    ensures { OnOk result (line.new.items ≡ line.old.items ++ slice_text args.now) }
+pub fn push_slice(page: &mut Page, args: &[SliceArg]) -> Result<(), AllocError>
+    ensures line { OnOk result (page.new.line ≡ page.old.line ++ slice_text args.now) }
+    ensures text { page.new.text ≡ page.old.text }
 {
     let [first, more @ ..] = args else {
         return Ok(());
     };
-    push_arg(line, *first)?;
-    push_more_args(line, more)
+    push_arg(page, *first)?;
+    push_more_args(page, more)
 }

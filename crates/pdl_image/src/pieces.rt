@@ -1,7 +1,7 @@
 //! The lines of roots: zeros, and then the elements piece by piece.
-ghost use Rattle.std.specs.Prelude.{◌≡◌, ◌≤◌, ◌<◌, ◌^◌, ◌+◌, ◌-◌, ◌∷◌, [], min, map, take, drop, length, IfOk};
+ghost use Rattle.std.specs.Prelude.{◌≡◌, ◌≤◌, ◌<◌, ◌^◌, ◌+◌, ◌-◌, ◌∷◌, [], min, take, drop, length, IfOk};
 ghost use Rattle.pdl_image.specs.Adding.{Adds};
-ghost use Rattle.pdl_image.specs.Dump.{as_listed, filling_lines, least_lines, piece_count, root_lines};
+ghost use Rattle.pdl_image.specs.Dump.{filling_lines, least_lines, piece_count, root_lines};
 
 use crate::draft::Draft;
 use crate::{ImageFault, PIECE};
@@ -9,23 +9,6 @@ use pdl_buf::{Strided, strided_dims, strided_read, strided_type};
 use pdl_elem::Ty;
 use pdl_shape::{Dims, elements_of};
 use std::alloc::{AllocError, Global};
-
-/// A number as it stands in a list: 0 for the least longlong.
-fn as_listed(number: i64) -> i64
-    ensures { result ≡ as_listed number }
-{
-    if number == i64::MIN { 0 } else { number }
-}
-
-/// Numbers as they stand in a list.
-fn all_listed(alloc: Global, numbers: &[i64]) -> Result<Vec<i64>, AllocError>
-    ensures { IfOk result (λ listed. listed.items ≡ map as_listed numbers.now) }
-{
-    numbers
-        .iter()
-        .map(|number| as_listed(*number))
-        .collect(alloc)
-}
 
 /// Appends the line that gives an element the least longlong, if it has this number.
 fn add_if_least(
@@ -38,6 +21,7 @@ fn add_if_least(
         (least_lines name.now position (number ∷ [])) result }
 {
     if number != i64::MIN {
+        // brings in that the text so far isn't too long
         let _len = draft.len();
         return Ok(());
     }
@@ -54,6 +38,7 @@ fn add_leasts(
     requires { first + length numbers.now < 2 ^ 32 }
     ensures { Adds draft.old draft.new (least_lines name.now first numbers.now) result }
 {
+    // brings in that the text so far isn't too long
     let _len = draft.len();
     for (i, number) in numbers.iter().enumerate() {
         add_if_least(draft, name, first + i, *number)?;
@@ -71,8 +56,7 @@ pub fn add_piece(
     requires { first + length numbers.now < 2 ^ 32 }
     ensures { Adds draft.old draft.new (filling_lines name.now first numbers.now) result }
 {
-    let listed = all_listed(draft.alloc(), numbers)?;
-    draft.add_given(name, first, &listed)?;
+    draft.add_given(name, first, numbers)?;
     add_leasts(draft, name, first, numbers)
 }
 

@@ -1,5 +1,5 @@
 //! The lines of views.
-ghost use Rattle.std.specs.Prelude.{◌≡◌, ◌<◌, ◌^◌, ◌∷◌, [], length, codes, IsTrue};
+ghost use Rattle.std.specs.Prelude.{◌<◌, ◌^◌, ◌∷◌, [], length, IsTrue};
 ghost use Rattle.pdl_choice.specs.Where.{rises};
 ghost use Rattle.pdl_shape.specs.Shape.{size_of};
 ghost use Rattle.pdl_world.specs.declared.Trans.TheVariants as trans;
@@ -88,7 +88,7 @@ fn add_windows(
         let view = view_line name.now parent.now call in
         Adds draft.old draft.new (view ∷ undef_line index.now ∷ []) result }
 {
-    draft.add_range(name, parent, index, windows.sizes, windows.edge)?;
+    draft.add_ranged(name, parent, index, windows.sizes, windows.edge)?;
     draft.add_undef(index)
 }
 
@@ -157,6 +157,7 @@ pub fn add_undefs(
 ) -> Result<(), ImageFault>
     ensures { Adds draft.old draft.new (undef_lines stem.now count) result }
 {
+    // brings in that the text so far isn't too long
     let _len = draft.len();
     for k in 0..count {
         write_name_at(name, stem, k)?;

@@ -59,29 +59,8 @@ fn settled(draft: &mut Draft, mark: usize, done: Result<(), ImageFault>) -> Resu
     done
 }
 
-/// Appends the definition of a kernel, or nothing.
-fn write_kernel(
-    draft: &mut Draft,
-    name: &[u8],
-    signature: &[u8],
-    code: &[u8],
-) -> Result<(), ImageFault>
-    ensures { let lines = kernel_line name.now signature.now code.now ∷ [] in
-        Writes draft.old draft.new lines result }
-{
-    draft.add_kernel(name, signature, code)
-}
-
-/// Appends the line of a name, or nothing.
-fn write_name(draft: &mut Draft, name: &[u8], other: &[u8]) -> Result<(), ImageFault>
-    ensures { let lines = same_line name.now other.now ∷ [] in
-        Writes draft.old draft.new lines result }
-{
-    draft.add_same(name, other)
-}
-
 /// Appends the lines of a root, or none.
-fn write_root(draft: &mut Draft, name: &[u8], elems: &Strided<'_>) -> Result<(), ImageFault>
+fn add_whole_root(draft: &mut Draft, name: &[u8], elems: &Strided<'_>) -> Result<(), ImageFault>
     ensures { let lines = root_lines name.now elems.now.ty elems.now.dims elems.now.elems in
         Writes draft.old draft.new lines result }
 {
@@ -91,7 +70,7 @@ fn write_root(draft: &mut Draft, name: &[u8], elems: &Strided<'_>) -> Result<(),
 }
 
 /// Appends the lines of a view, or none.
-fn write_view(
+fn add_whole_view(
     draft: &mut Draft,
     name: &[u8],
     parent: &[u8],
@@ -132,12 +111,8 @@ impl ImageWriter {
         ensures refused { let lines = kernel_line name.now signature.now code.now ∷ [] in
             IfErr result (λ f. f ≡ ImageFault.TooLong → is_too_long self.old.text lines ≡ true) }
     {
-        write_kernel(
-            &mut self.draft,
-            name.bytes(),
-            signature.bytes(),
-            code.bytes(),
-        )
+        self.draft
+            .add_kernel(name.bytes(), signature.bytes(), code.bytes())
     }
 
     /// Writes the root with a number: its type, its dimensions and its elements.
@@ -152,7 +127,7 @@ impl ImageWriter {
             IfErr result (λ f. f ≡ ImageFault.TooLong → is_too_long self.old.text lines ≡ true) }
     {
         write_name_at(&mut self.name, self.stem.bytes(), id)?;
-        write_root(&mut self.draft, &self.name, elems)?;
+        add_whole_root(&mut self.draft, &self.name, elems)?;
         self.arrays += 1;
         Ok(())
     }
@@ -174,7 +149,7 @@ impl ImageWriter {
         write_name_at(&mut self.name, self.stem.bytes(), id)?;
         write_name_at(&mut self.other, self.stem.bytes(), parent)?;
         write_index_name(&mut self.index, self.stem.bytes())?;
-        write_view(&mut self.draft, &self.name, &self.other, &self.index, trans)?;
+        add_whole_view(&mut self.draft, &self.name, &self.other, &self.index, trans)?;
         self.arrays += 1;
         Ok(())
     }
@@ -190,7 +165,7 @@ impl ImageWriter {
             IfErr result (λ f. f ≡ ImageFault.TooLong → is_too_long self.old.text lines ≡ true) }
     {
         write_name_at(&mut self.other, self.stem.bytes(), id)?;
-        write_name(&mut self.draft, name.bytes(), &self.other)
+        self.draft.add_same(name.bytes(), &self.other)
     }
 
     /// Writes the ends of the arrays' own names, and gives the whole text. A refusal gives up the

@@ -33,7 +33,8 @@ mod Firsts
 mod RenewRows
 mod RenewOrder
 mod Relays
-mod Unmet
+mod Finding
+mod Walks
 mod RenewLoop
 mod Relaying
 mod Leavings

@@ -1,14 +1,15 @@
 -- The loop of a renewal, which renews each newer row over the rows as they are.
-use Rattle.std.proofs.Common.{◌≡◌, ℕ, ℤ, ◌+◌, ◌-◌, ◌<◌, ◌≤◌, Bool, true, false, eqb, cond, List, [], ◌∷◌, Option, Some, None, inl, inr, refl, sym, ◌∙◌, ap, subst, arith}
-use Rattle.std.specs.Option.{option_map_or, unwrap_or}
+use Rattle.std.proofs.Common.{◌≡◌, ℕ, ℤ, ◌+◌, ◌<◌, ◌≤◌, Bool, true, false, eqb, cond, List, [], ◌∷◌, Option, Some, inl, inr, refl, sym, ◌∙◌, ap, subst, arith}
+use Rattle.std.specs.Option.{unwrap_or}
 use Rattle.std.proofs.lemmas.Bool.{both_ways, cases_eq, cases_lt, eq-eqb, ne_eqb}
 use Rattle.std.proofs.lemmas.Bool.Decides.{eqb_tells}
 use Rattle.pdl_nodes.specs.declared.origin.Layout.{Layout}
 use Rattle.pdl_nodes.specs.declared.origin.Origin.{Origin}
 use Rattle.pdl_nodes.specs.declared.origin.Origin.TheVariants.{Root, View}
-use Rattle.pdl_nodes.specs.Children.{children, one_of}
+use Rattle.pdl_nodes.specs.Below.{AreBelow}
 use Rattle.pdl_nodes.specs.Row.{root_row, Row, parent_from, parent_of, shown_of}
-use Rattle.pdl_nodes.specs.Rows.{Rows, row_at, has, each, from, NumbersBelow, Falls}
+use Rattle.pdl_nodes.specs.Rows.{Rows, row_at, has, each, NumbersBelow, Falls}
+use Rattle.pdl_world.specs.Swept.{is_listed}
 use Rattle.pdl_elem.specs.declared.Ty.{Ty}
 use Rattle.pdl_nodes.specs.declared.node.Shown.{Shown}
 use Rattle.pdl_nodes.specs.Joined.{LaidOver, shown_row, view_row}
@@ -16,17 +17,15 @@ use Rattle.pdl_nodes.specs.Seen.{IsViewAt}
 use Rattle.pdl_nodes.specs.Sized.{IsLayout}
 use Rattle.pdl_nodes.specs.Still.{StillFrom, IsStill}
 use Rattle.pdl_world.specs.declared.Trans.{Trans}
-use Rattle.pdl_nodes.proofs.Counted.{children_each, children_rooted, renewed_parent}
 use Rattle.pdl_nodes.proofs.FamilyLemmas.{still_falls}
 use Rattle.pdl_nodes.proofs.Finds.{not_newest, has_below, each_has, each_at, falls_each}
-use Rattle.pdl_nodes.proofs.Firsts.{IsFirst, from_each, from_on, is_first, none_past}
-use Rattle.pdl_nodes.proofs.Lefts.{no_one}
 use Rattle.pdl_nodes.proofs.Paths.{parent_live}
 use Rattle.pdl_nodes.proofs.Marks.{each_live, each_each, each_id}
-use Rattle.pdl_nodes.proofs.RenewRows.{AllAfter, after, is_untouched, moved_root, renew_row}
+use Rattle.pdl_nodes.proofs.RenewRows.{AllAfter, after, is_untouched, renew_row}
 use Rattle.pdl_nodes.proofs.Seens.{is_seen, row_older, has_older, view_at}
-use Rattle.pdl_nodes.proofs.Unmet.{AreAbove, HasRoom, IsBelow, IsPast, IsUnmet, is_past, none_below, none_between, of_parent, past_is, past_room, start_known, unmet, unmet_here, unmet_next}
-use Rattle.pdl_nodes.specs.Renewed.{AreLaid, CanDerive, CanRenew, Fits, Layouts, LaidAnew, is_of, laid_by, layout_at, renew, renewed, renewed_in, rooted_in, with_layout}
+use Rattle.pdl_nodes.proofs.Finding.{first_listed, rest_listed}
+use Rattle.pdl_nodes.proofs.Walks.{IsBelow, IsLeft, left_begins, left_done, left_next, left_passed, of_parent}
+use Rattle.pdl_nodes.specs.Renewed.{AreLaid, CanDerive, CanRenew, Fits, Layouts, LaidAnew, laid_by, layout_at, renew, renewed, renewed_in, rooted_in, with_layout}
 
 -- the changes of one row
 pub rooted_here : (id : ℕ) (ds : List ℕ) (es : List ℤ) (r : Row) → root_row id r.ty ds es ≡ rooted_in id ds es id r
@@ -215,31 +214,8 @@ each_left ls left v rs t id f e = each_live (renewed_in left v rs id) (renewed_i
   | inr y ↦ rw y.0 refl
 ])
 
--- the rows below the bound are renewed, the others are as they were; and the next is the first from i on
-pub record IsRenewing (ls : Layouts) (t0 : Rows) (v : ℕ) (ds : List ℕ) (es : List ℤ) (t : Rows) (next : Option ℕ) : Type 0 where
-  pub bound : ℕ
-  pub above : v < bound
-  pub first : IsFirst t0 bound next
-  pub rows : t ≡ each (λ k r. row_at t k) t0
-  pub done : (u : ℕ) → has t0 u ≡ true → u < bound → row_at t u ≡ row_at (renew ls t0 v ds es) u
-  pub rest : (u : ℕ) → has t0 u ≡ true → bound ≤ u → row_at t u ≡ row_at t0 u
-
--- how many numbers are left above the next
-abbrev pub room_of : Option ℕ → ℕ
-room_of next = option_map_or (λ n. 18446744073709551615 - n) next 0
-
 same_each : (t0 t : Rows) (f : ℕ → Row → Row) → IsStill t0 → t ≡ each f t0 → t ≡ each (λ k r. row_at t k) t0
 same_each t0 t f s e = e ∙ each_live f (λ k r. row_at t k) t0 (still_falls t0 s) (λ k h. sym (ap (λ x. row_at x k) e ∙ each_at f t0 k h))
-
-first_each : (f : ℕ → Row → Row) (rs : Rows) (n : ℕ) (o : Option ℕ) → IsFirst (each f rs) n o → IsFirst rs n o
-first_each f rs n None h = λ v l m. h v (each_has f rs v ∙ l) m
-first_each f rs n (Some k) h = (h.0, sym (each_has f rs k) ∙ h.1, λ v l m. h.2 v (each_has f rs v ∙ l) m)
-
-next_is : (f : ℕ → Row → Row) (t0 t : Rows) (n : ℕ) (o : Option ℕ) → IsStill t0 → t ≡ each f t0 → o ≡ from t n → IsFirst t0 n o
-next_is f t0 t n o s e b =
-    let falls : Falls (each f t0) = falls_each f t0 (still_falls t0 s) in
-    let P : Option ℕ → Type 0 = λ x. IsFirst t0 n x in
-    subst P (sym (b ∙ ap (λ x. from x n) e)) (first_each f t0 n (from (each f t0) n) (is_first (each f t0) n falls))
 
 -- the new root is there, and no view is derived anew yet
 rooted_row : (ls : Layouts) (t0 : Rows) (v : ℕ) (ds : List ℕ) (es : List ℤ) (t : Rows) (u : ℕ) → t ≡ each (rooted_in v ds es) t0 → has t0 v ≡ true → has t0 u ≡ true
@@ -313,69 +289,32 @@ new_below ls t0 v ds es c = record {
   follows = new_follows ls t0 v ds es c;
 }
 
--- where no array from the bound on is below, none is left to be derived anew
-renewing_ends : (ls : Layouts) (t0 : Rows) (v : ℕ) (ds : List ℕ) (es : List ℤ) (t : Rows) (o : Option ℕ) (b : ℕ) → CanRenew ls t0 v ds es → NumbersBelow 18446744073709551615 t0 → IsFirst t0 b o → IsRenewing ls t0 v ds es t o
-    → ((u : ℕ) → has t0 u ≡ true → b ≤ u → is_new ls t0 v ds es u ≡ false) → IsRenewing ls t0 v ds es t None
-renewing_ends ls t0 v ds es t o b k below f c none = record {
-  bound = 18446744073709551615;
-  above = has_below t0 18446744073709551615 v below k.live;
-  first = none_past t0 18446744073709551615 below;
-  rows = c.rows;
-  done = λ u g l. elim (cases_lt u c.bound) [
-    | inl y ↦ c.done u g y
-    | inr y ↦ c.rest u g y ∙ sym (is_untouched v (row_at t0 v).root u (row_at t0 u) (row_at (renew ls t0 v ds es) u) (moved ls t0 v ds es k u g)
-        (λ e. both_ways (is_new ls t0 v ds es u) (none u g (from_on t0 o c.bound b c.first f u g y)) (eq-eqb (row_at (renew ls t0 v ds es) u).root v e))).row
-  ];
-  rest = λ u g l. absurd (none_past t0 18446744073709551615 below u g l);
-}
+-- an array that isn't below stays as it is
+untouched : (ls : Layouts) (t0 : Rows) (v : ℕ) (ds : List ℕ) (es : List ℤ) → CanRenew ls t0 v ds es → (u : ℕ) → has t0 u ≡ true → is_new ls t0 v ds es u ≡ false → row_at t0 u ≡ row_at (renew ls t0 v ds es) u
+untouched ls t0 v ds es k u h n =
+    sym (is_untouched v (row_at t0 v).root u (row_at t0 u) (row_at (renew ls t0 v ds es) u) (moved ls t0 v ds es k u h)
+    (λ e. both_ways (is_new ls t0 v ds es u) n (eq-eqb (row_at (renew ls t0 v ds es) u).root v e))).row
 
-renewing_next : (ls : Layouts) (t0 : Rows) (v : ℕ) (ds : List ℕ) (es : List ℤ) (t : Rows) (b n : ℕ) (next : Option ℕ) → CanRenew ls t0 v ds es → NumbersBelow 18446744073709551615 t0 → v < b → IsRenewing ls t0 v ds es t (from t0 b)
-    → n ≡ unmet t0 (is_new ls t0 v ds es) b → next ≡ cond (eqb n 0) None (from t0 b) → IsRenewing ls t0 v ds es t next
-renewing_next ls t0 v ds es t b n next k below l c e f = subst (λ (x : Option ℕ). IsRenewing ls t0 v ds es t x) (sym f) (elim (eqb_tells n 0) [
-  | inl y ↦ rw y.0 (renewing_ends ls t0 v ds es t (from t0 b) b k below (is_first t0 b (still_falls t0 k.order.still)) c
-      (none_below t0 (is_new ls t0 v ds es) v b k.order.still l (new_below ls t0 v ds es k) (sym e ∙ y.1)))
-  | inr y ↦ rw y.0 c
-])
+-- the rows below the bound are renewed, the others are as they were, and the views ws are left
+pub record IsRenewing (ls : Layouts) (t0 : Rows) (v : ℕ) (ds : List ℕ) (es : List ℤ) (t : Rows) (ws : List ℕ) : Type 0 where
+  pub bound : ℕ
+  pub above : v < bound
+  pub left : IsLeft t0 (is_new ls t0 v ds es) bound ws
+  pub rows : t ≡ each (λ k r. row_at t k) t0
+  pub done : (u : ℕ) → has t0 u ≡ true → u < bound → row_at t u ≡ row_at (renew ls t0 v ds es) u
+  pub rest : (u : ℕ) → has t0 u ≡ true → bound ≤ u → row_at t u ≡ row_at t0 u
 
--- up to w nothing that is newer than the new root is derived anew
-renewing_starts : (ls : Layouts) (t0 : Rows) (v w : ℕ) (ds : List ℕ) (es : List ℤ) (t : Rows) → CanRenew ls t0 v ds es → v ≤ w → ((u : ℕ) → has t0 u ≡ true → v < u → u ≤ w → is_new ls t0 v ds es u ≡ false) → t ≡ each (rooted_in v ds es) t0 → IsRenewing ls t0 v ds es t (from t0 (w + 1))
-renewing_starts ls t0 v w ds es t k l none e = record {
-  bound = w + 1;
-  above = omega (arith, l);
-  first = is_first t0 (w + 1) (still_falls t0 k.order.still);
+pub renewing_begins : (ls : Layouts) (t0 : Rows) (v : ℕ) (ds : List ℕ) (es : List ℤ) (t : Rows) (us : List ℕ) → CanRenew ls t0 v ds es → AreBelow t0 v us → t ≡ each (rooted_in v ds es) t0 → IsRenewing ls t0 v ds es t us
+renewing_begins ls t0 v ds es t us k b e = record {
+  bound = v + 1;
+  above = omega arith;
+  left = left_begins t0 v (is_new ls t0 v ds es) us k.order.still (new_below ls t0 v ds es k) b;
   rows = same_each t0 t (rooted_in v ds es) k.order.still e;
-  done = λ u g m. rooted_row ls t0 v ds es t u e k.live g (λ n. elim (cases_lt u v) [
-    | inl y ↦ renew_low ls t0 k.order.still v ds es u g y
-    | inr y ↦ (is_untouched v (row_at t0 v).root u (row_at t0 u) (row_at (renew ls t0 v ds es) u) (moved ls t0 v ds es k u g)
-        (λ q. both_ways (is_new ls t0 v ds es u) (none u g (omega (arith, y, n)) (omega (arith, m))) (eq-eqb (row_at (renew ls t0 v ds es) u).root v q))).row
-  ]);
-  rest = λ u g m. ap (λ x. row_at x u) e ∙ each_at (rooted_in v ds es) t0 u g ∙ rw (ne_eqb u v (λ y. (let z : ⊥ = omega (arith, l, m, y) in z))) refl;
+  done = λ u g m. rooted_row ls t0 v ds es t u e k.live g (λ n. renew_low ls t0 k.order.still v ds es u g (omega (arith, m, n)));
+  rest = λ u g m. ap (λ x. row_at x u) e ∙ each_at (rooted_in v ds es) t0 u g ∙ rw (ne_eqb u v (λ y. (let z : ⊥ = omega (arith, m, y) in z))) refl;
 }
 
-pub renewing_begins : (ls : Layouts) (t0 : Rows) (v w : ℕ) (ds : List ℕ) (es : List ℤ) (t : Rows) (n : ℕ) (next : Option ℕ) → CanRenew ls t0 v ds es → NumbersBelow 18446744073709551615 t0 → v ≤ w → AreAbove t0 v w → t ≡ each (rooted_in v ds es) t0
-    → n ≡ children t0 v → next ≡ cond (eqb n 0) None (from t0 (w + 1)) → IsRenewing ls t0 v ds es t next × IsUnmet t0 (is_new ls t0 v ds es) next n
-renewing_begins ls t0 v w ds es t n next k below l a e m f =
-    let s : IsStill t0 = k.order.still in
-    let i : IsBelow t0 v (is_new ls t0 v ds es) = new_below ls t0 v ds es k in
-    let count : n ≡ unmet t0 (is_new ls t0 v ds es) (w + 1) = m ∙ sym (start_known t0 (is_new ls t0 v ds es) v w s k.live i l a) in (
-      renewing_next ls t0 v ds es t (w + 1) n next k below (omega (arith, l)) (renewing_starts ls t0 v w ds es t k l (λ u h x y. none_between t0 (is_new ls t0 v ds es) v w s i.older i.follows a u h x y) e) count f,
-      unmet_next t0 (is_new ls t0 v ds es) (w + 1) n next s count f,
-    )
-
--- the arrays from the new root on have as many views as before
-abbrev pub AreCountedFrom : Rows → (v : ℕ) → Rows → Type 0
-AreCountedFrom t0 v t = (u : ℕ) → v ≤ u → children t u ≡ children t0 u
-
-pub counted_begins : (t0 : Rows) (v : ℕ) (ds : List ℕ) (es : List ℤ) (t : Rows) → IsStill t0 → has t0 v ≡ true → t ≡ each (rooted_in v ds es) t0 → AreCountedFrom t0 v t
-counted_begins t0 v ds es t s h e u l =
-    let sum : children t0 u ≡ one_of (parent_of (row_at t0 v)) u + children (each (rooted_in v ds es) t0) u = children_rooted t0 v u ds es (still_falls t0 s) h in
-    let none : one_of (parent_of (row_at t0 v)) u ≡ 0 = no_one (parent_of (row_at t0 v)) u (λ q. (let low : u < v = (parent_live t0 v u s h q).1 in absurd (omega (arith, low, l)))) in
-    ap (λ x. children x u) e ∙ omega (arith, sum, none)
-
-pub counted_goes : (ls : Layouts) (t0 : Rows) (v : ℕ) (t new : Rows) (id : ℕ) → AreCountedFrom t0 v t → new ≡ each (renewed_in ls v t id) t → AreCountedFrom t0 v new
-counted_goes ls t0 v t new id c e u l = ap (λ x. children x u) e ∙ children_each (renewed_in ls v t id) t u (renewed_parent ls v t id) ∙ c u l
-
--- the next number is live and newer, and the rows before it are done
+-- the next view is live and newer, and the rows before it are done
 record IsAt (ls : Layouts) (t0 : Rows) (v : ℕ) (ds : List ℕ) (es : List ℤ) (t : Rows) (id : ℕ) : Type 0 where
   live : has t0 id ≡ true
   newer : v < id
@@ -384,28 +323,29 @@ record IsAt (ls : Layouts) (t0 : Rows) (v : ℕ) (ds : List ℕ) (es : List ℤ)
   rest : (u : ℕ) → has t0 u ≡ true → id < u → row_at t u ≡ row_at t0 u
   has_is : (u : ℕ) → has t u ≡ has t0 u
 
-is_at : (ls : Layouts) (t0 : Rows) (v : ℕ) (ds : List ℕ) (es : List ℤ) (t : Rows) (next : Option ℕ) (id : ℕ) → IsRenewing ls t0 v ds es t next → next ≡ Some id → IsAt ls t0 v ds es t id
-is_at ls t0 v ds es t next id c e =
-    let f : IsFirst t0 c.bound (Some id) = (let P : Option ℕ → Type 0 = λ x. IsFirst t0 c.bound x in subst P e c.first) in
+is_at : (ls : Layouts) (t0 : Rows) (v : ℕ) (ds : List ℕ) (es : List ℤ) (t : Rows) (id : ℕ) (ws : List ℕ) → CanRenew ls t0 v ds es → IsRenewing ls t0 v ds es t (id ∷ ws) → IsAt ls t0 v ds es t id
+is_at ls t0 v ds es t id ws k c =
+    let low : c.bound ≤ id = c.left.above id (first_listed id ws) in
+    let live : has t0 id ≡ true = c.left.there id (first_listed id ws) in
     record {
-      live = f.1;
-      newer = omega (arith, c.above, f.0);
-      here = c.rest id f.1 f.0;
+      live = live;
+      newer = omega (arith, c.above, low);
+      here = c.rest id live low;
       done = λ u h l. elim (cases_lt u c.bound) [
         | inl y ↦ c.done u h y
-        | inr y ↦ (let z : id ≤ u = f.2 u h y in let w : ⊥ = omega arith in absurd w)
+        | inr y ↦ c.rest u h y ∙ untouched ls t0 v ds es k u h (left_passed t0 (is_new ls t0 v ds es) c.bound id ws c.left u h y l)
       ];
-      rest = λ u h l. c.rest u h (let x : c.bound ≤ id = f.0 in omega arith);
+      rest = λ u h l. c.rest u h (omega (arith, low, l));
       has_is = λ u. ap (λ r. has r u) c.rows ∙ each_has (λ k r. row_at t k) t0 u;
     }
 
-pub renewing_live : (ls : Layouts) (t0 : Rows) (v : ℕ) (ds : List ℕ) (es : List ℤ) (t : Rows) (next : Option ℕ) (id : ℕ) → IsRenewing ls t0 v ds es t next → next ≡ Some id → has t id ≡ true
-renewing_live ls t0 v ds es t next id c e = let a : IsAt ls t0 v ds es t id = is_at ls t0 v ds es t next id c e in a.has_is id ∙ a.live
+pub renewing_live : (ls : Layouts) (t0 : Rows) (v : ℕ) (ds : List ℕ) (es : List ℤ) (t : Rows) (id : ℕ) (ws : List ℕ) → CanRenew ls t0 v ds es → IsRenewing ls t0 v ds es t (id ∷ ws) → has t id ≡ true
+renewing_live ls t0 v ds es t id ws k c = let a : IsAt ls t0 v ds es t id = is_at ls t0 v ds es t id ws k c in a.has_is id ∙ a.live
 
-renewing_more : (ls : Layouts) (t0 : Rows) (v : ℕ) (ds : List ℕ) (es : List ℤ) (t new : Rows) (next later : Option ℕ) (id : ℕ) → IsStill t0 → IsRenewing ls t0 v ds es t next → next ≡ Some id → new ≡ each (renewed_in ls v t id) t → later ≡ from new (id + 1)
-    → IsRenewing ls t0 v ds es new later
-renewing_more ls t0 v ds es t new next later id s c e n b =
-    let a : IsAt ls t0 v ds es t id = is_at ls t0 v ds es t next id c e in
+pub renewing_goes : (ls : Layouts) (t0 : Rows) (v : ℕ) (ds : List ℕ) (es : List ℤ) (t new : Rows) (id : ℕ) (ws : List ℕ) → CanRenew ls t0 v ds es → IsRenewing ls t0 v ds es t (id ∷ ws) → new ≡ each (renewed_in ls v t id) t → IsRenewing ls t0 v ds es new ws
+renewing_goes ls t0 v ds es t new id ws k c n =
+    let s : IsStill t0 = k.order.still in
+    let a : IsAt ls t0 v ds es t id = is_at ls t0 v ds es t id ws k c in
     let ne : id ≡ v → ⊥ = λ y. (let x : v < id = a.newer in let z : ⊥ = omega arith in z) in
     let all : new ≡ each (λ k r. renewed_in ls v t id k (row_at t k)) t0 = n ∙ ap (each (renewed_in ls v t id)) c.rows ∙ each_each (renewed_in ls v t id) (λ k r. row_at t k) t0 in
     let row : (u : ℕ) → has t0 u ≡ true → row_at new u ≡ renewed_in ls v t id u (row_at t u) = λ u g. ap (λ r. row_at r u) n ∙ each_at (renewed_in ls v t id) t u (a.has_is u ∙ g) in
@@ -414,7 +354,7 @@ renewing_more ls t0 v ds es t new next later id s c e n b =
     record {
       bound = id + 1;
       above = (let x : v < id = a.newer in omega arith);
-      first = next_is (λ k r. renewed_in ls v t id k (row_at t k)) t0 new (id + 1) later s all b;
+      left = left_next t0 (is_new ls t0 v ds es) c.bound id ws c.left;
       rows = same_each t0 new (λ k r. renewed_in ls v t id k (row_at t k)) s all;
       done = λ u g l. row u g ∙ elim (eqb_tells u id) [
         | inl y ↦ rw y.0 (let P : ℕ → Type 0 = λ x. renewed ls t v id (row_at t x) (row_at t x).origin ≡ row_at (renew ls t0 v ds es) x in
@@ -424,143 +364,42 @@ renewing_more ls t0 v ds es t new next later id s c e n b =
       rest = λ u g l. row u g ∙ rw (ne_eqb u id (λ y. (let z : ⊥ = omega arith in z))) (a.rest u g (omega arith));
     }
 
-pub renewing_done : (ls : Layouts) (t0 : Rows) (v : ℕ) (ds : List ℕ) (es : List ℤ) (t : Rows) (next : Option ℕ) → IsStill t0 → IsRenewing ls t0 v ds es t next → next ≡ None → t ≡ renew ls t0 v ds es
-renewing_done ls t0 v ds es t next s c e =
-    let f : IsFirst t0 c.bound None = (let P : Option ℕ → Type 0 = λ x. IsFirst t0 c.bound x in subst P e c.first) in
-    c.rows ∙ each_live (λ k r. row_at t k) (λ k r. row_at (renew ls t0 v ds es) k) t0 (still_falls t0 s) (λ k h. elim (cases_lt k c.bound) [
-      | inl y ↦ c.done k h y
-      | inr y ↦ absurd (f k h y)
-    ]) ∙ each_renew ls t0 s v ds es
+pub renewing_done : (ls : Layouts) (t0 : Rows) (v : ℕ) (ds : List ℕ) (es : List ℤ) (t : Rows) → CanRenew ls t0 v ds es → IsRenewing ls t0 v ds es t [] → t ≡ renew ls t0 v ds es
+renewing_done ls t0 v ds es t k c =
+    c.rows ∙ each_live (λ j r. row_at t j) (λ j r. row_at (renew ls t0 v ds es) j) t0 (still_falls t0 k.order.still) (λ j h. elim (cases_lt j c.bound) [
+      | inl y ↦ c.done j h y
+      | inr y ↦ c.rest j h y ∙ untouched ls t0 v ds es k j h (left_done t0 (is_new ls t0 v ds es) c.bound c.left j h y)
+    ]) ∙ each_renew ls t0 k.order.still v ds es
 
-room_less : (m n : ℕ) → m < 18446744073709551615 → n + 1 ≤ m → 18446744073709551615 - m < 18446744073709551615 - n
-room_less m n a b = omega arith
-
-room_by : (t0 : Rows) (id : ℕ) (o : Option ℕ) → NumbersBelow 18446744073709551615 t0 → has t0 id ≡ true → IsFirst t0 (id + 1) o → room_of o < room_of (Some id)
-room_by t0 id None b h f = (let x : id < 18446744073709551615 = has_below t0 18446744073709551615 id b h in omega arith)
-room_by t0 id (Some m) b h f = room_less m id (has_below t0 18446744073709551615 m b f.1) f.0
-
--- what a walk goes on with is from there on
-going_on : (n : ℕ) (o later : Option ℕ) → later ≡ cond (eqb n 0) None o → (m : ℕ) → later ≡ Some m → o ≡ Some m
-going_on n o later e m f = elim (eqb_tells n 0) [
-  | inl y ↦ (let z : None ≡ Some m = sym (ap (λ x. cond x None o) y.0) ∙ sym e ∙ f in absurd (cc))
-  | inr y ↦ sym (ap (λ x. cond x None o) y.0) ∙ sym e ∙ f
-]
-
-pub room_next : (t0 : Rows) (id n : ℕ) (o later : Option ℕ) → NumbersBelow 18446744073709551615 t0 → has t0 id ≡ true → IsFirst t0 (id + 1) o → later ≡ cond (eqb n 0) None o → room_of later < room_of (Some id)
-room_next t0 id n o later b h f e = subst (λ (x : Option ℕ). room_of x < room_of (Some id)) (sym e) (elim (eqb_tells n 0) [
-  | inl y ↦ rw y.0 (let x : id < 18446744073709551615 = has_below t0 18446744073709551615 id b h in omega arith)
-  | inr y ↦ rw y.0 (room_by t0 id o b h f)
-])
-
-pub renewing_smaller : (ls : Layouts) (t0 : Rows) (v : ℕ) (ds : List ℕ) (es : List ℤ) (t new : Rows) (n : ℕ) (next later : Option ℕ) (id : ℕ) → IsStill t0 → NumbersBelow 18446744073709551615 t0 → IsRenewing ls t0 v ds es t next → next ≡ Some id
-    → new ≡ each (renewed_in ls v t id) t → later ≡ cond (eqb n 0) None (from new (id + 1)) → room_of later < room_of next
-renewing_smaller ls t0 v ds es t new n next later id s b c e g f =
-    let a : IsAt ls t0 v ds es t id = is_at ls t0 v ds es t next id c e in
-    let all : new ≡ each (λ k r. renewed_in ls v t id k (row_at t k)) t0 = g ∙ ap (each (renewed_in ls v t id)) c.rows ∙ each_each (renewed_in ls v t id) (λ k r. row_at t k) t0 in
-    let P : Option ℕ → Type 0 = λ x. room_of later < room_of x in
-    subst P (sym e) (room_next t0 id n (from new (id + 1)) later b a.live (next_is (λ k r. renewed_in ls v t id k (row_at t k)) t0 new (id + 1) (from new (id + 1)) s all refl) f)
-
-pub renewing_low : (ls : Layouts) (t0 : Rows) (v : ℕ) (ds : List ℕ) (es : List ℤ) (t : Rows) (next : Option ℕ) (id : ℕ) → NumbersBelow 18446744073709551615 t0 → IsRenewing ls t0 v ds es t next → next ≡ Some id → id < 18446744073709551615
-renewing_low ls t0 v ds es t next id b c e = has_below t0 18446744073709551615 id b (is_at ls t0 v ds es t next id c e).live
-
-pub renewing_falls : (ls : Layouts) (t0 : Rows) (v : ℕ) (ds : List ℕ) (es : List ℤ) (t : Rows) (next : Option ℕ) → IsStill t0 → IsRenewing ls t0 v ds es t next → Falls t
-renewing_falls ls t0 v ds es t next s c = subst (λ (x : Rows). Falls x) (sym c.rows) (falls_each (λ k r. row_at t k) t0 (still_falls t0 s))
+renewing_falls : (ls : Layouts) (t0 : Rows) (v : ℕ) (ds : List ℕ) (es : List ℤ) (t : Rows) (ws : List ℕ) → IsStill t0 → IsRenewing ls t0 v ds es t ws → Falls t
+renewing_falls ls t0 v ds es t ws s c = subst (λ (x : Rows). Falls x) (sym c.rows) (falls_each (λ k r. row_at t k) t0 (still_falls t0 s))
 
 -- the next view can be derived anew
-pub renewing_can : (ls : Layouts) (t0 : Rows) (v : ℕ) (ds : List ℕ) (es : List ℤ) (t : Rows) (next : Option ℕ) (id : ℕ) → IsStill t0 → AreLaid ls t0 v ds es → IsRenewing ls t0 v ds es t next → next ≡ Some id → CanDerive ls t v id
-renewing_can ls t0 v ds es t next id s l c e = λ p u y o.
-    let a : IsAt ls t0 v ds es t id = is_at ls t0 v ds es t next id c e in
+renewing_can : (ls : Layouts) (t0 : Rows) (v : ℕ) (ds : List ℕ) (es : List ℤ) (t : Rows) (id : ℕ) (ws : List ℕ) → CanRenew ls t0 v ds es → IsRenewing ls t0 v ds es t (id ∷ ws) → CanDerive ls t v id
+renewing_can ls t0 v ds es t id ws k c = λ p u y o.
+    let s : IsStill t0 = k.order.still in
+    let a : IsAt ls t0 v ds es t id = is_at ls t0 v ds es t id ws k c in
     let o0 : (row_at t0 id).origin ≡ View p u y = ap (λ (x : Row). x.origin) (sym a.here) ∙ o in
     let w : HasAbove t0 id p = has_above t0 s id p a.live (ap parent_from o0) in
     let row : row_at t p ≡ row_at (renew ls t0 v ds es) p = a.done p w.live w.older in
     let P : Row → Type 0 = λ x. IsLayout u x.triple.dims (laid_by ls id y) in
-    (a.has_is p ∙ w.live, λ g. subst P (sym row) (laid_at ls t0 s v ds es l id p u y a.live o0 (ap (λ (x : Row). x.root) (sym row) ∙ g)).layout)
+    (a.has_is p ∙ w.live, λ g. subst P (sym row) (laid_at ls t0 s v ds es k.laid id p u y a.live o0 (ap (λ (x : Row). x.root) (sym row) ∙ g)).layout)
 
--- the next array is below exactly where its parent is of the new root
-renewing_below : (ls : Layouts) (t0 : Rows) (v : ℕ) (ds : List ℕ) (es : List ℤ) (t : Rows) (next : Option ℕ) (id : ℕ) → CanRenew ls t0 v ds es → IsRenewing ls t0 v ds es t next → next ≡ Some id
-    → is_of t v (parent_of (row_at t id)) ≡ is_new ls t0 v ds es id
-renewing_below ls t0 v ds es t next id k c e =
-    let ne : id ≡ v → ⊥ = λ y. (let x : v < id = a.newer in let z : ⊥ = omega arith in z) in
-    ap (λ (r : Row). is_of t v (parent_of r)) a.here ∙ by (parent_of (row_at t0 id)) refl ∙ sym (new_follows ls t0 v ds es k id a.live ne)
-  where
-    a : IsAt ls t0 v ds es t id
-    a = is_at ls t0 v ds es t next id c e
-
-    by : (o : Option ℕ) → parent_of (row_at t0 id) ≡ o → is_of t v o ≡ of_parent (is_new ls t0 v ds es) o
-    by None q = refl
-    by (Some p) q = (let w : HasAbove t0 id p = has_above t0 k.order.still id p a.live q in ap (λ (r : Row). eqb r.root v) (a.done p w.live w.older))
-
--- one that was of another family isn't
-pub renewing_apart : (ls : Layouts) (t0 : Rows) (v : ℕ) (ds : List ℕ) (es : List ℤ) (t : Rows) (next : Option ℕ) (id : ℕ) → CanRenew ls t0 v ds es → IsRenewing ls t0 v ds es t next → next ≡ Some id
-    → ((row_at t id).root ≡ (row_at t0 v).root → ⊥) → is_of t v (parent_of (row_at t id)) ≡ false
-renewing_apart ls t0 v ds es t next id k c e n =
-    let a : IsAt ls t0 v ds es t id = is_at ls t0 v ds es t next id c e in
-    renewing_below ls t0 v ds es t next id k c e
-    ∙ ne_eqb (row_at (renew ls t0 v ds es) id).root v (λ q. n (ap (λ (r : Row). r.root) a.here ∙ moved_root v (row_at t0 v).root id (row_at t0 id) (row_at (renew ls t0 v ds es) id) (moved ls t0 v ds es k id a.live) q))
-
-pub apart_same : (ls : Layouts) (v : ℕ) (rs : Rows) (id : ℕ) → Falls rs → is_of rs v (parent_of (row_at rs id)) ≡ false → each (renewed_in ls v rs id) rs ≡ rs
-apart_same ls v rs id f n = sym (none_renewed ls v rs id f (λ p e g. both_ways (is_of rs v (parent_of (row_at rs id))) n (ap (is_of rs v) e ∙ eq-eqb (row_at rs p).root v g)))
-
--- the count, past the next array
-renewing_past : (ls : Layouts) (t0 : Rows) (v : ℕ) (ds : List ℕ) (es : List ℤ) (t : Rows) (next : Option ℕ) (id n : ℕ) → CanRenew ls t0 v ds es → IsRenewing ls t0 v ds es t next → next ≡ Some id → IsUnmet t0 (is_new ls t0 v ds es) next n
-    → IsPast t0 (is_new ls t0 v ds es) id n
-renewing_past ls t0 v ds es t next id n k c e i =
-    let a : IsAt ls t0 v ds es t id = is_at ls t0 v ds es t next id c e in
-    is_past t0 (is_new ls t0 v ds es) v id n k.order.still a.live (λ y. (let x : v < id = a.newer in let z : ⊥ = omega arith in z)) (new_below ls t0 v ds es k) (unmet_here t0 (is_new ls t0 v ds es) next n id i e)
-
--- one that is below was known, and the count has room
-pub renewing_room : (ls : Layouts) (t0 : Rows) (v : ℕ) (ds : List ℕ) (es : List ℤ) (t new : Rows) (next : Option ℕ) (id n : ℕ) (b : Bool) → CanRenew ls t0 v ds es → NumbersBelow 18446744073709551615 t0 → IsRenewing ls t0 v ds es t next → next ≡ Some id
-    → IsUnmet t0 (is_new ls t0 v ds es) next n → AreCountedFrom t0 v new → b ≡ is_of t v (parent_of (row_at t id)) → b ≡ true → HasRoom n (children new id)
-renewing_room ls t0 v ds es t new next id n b k below c e i counts f y =
-    let a : IsAt ls t0 v ds es t id = is_at ls t0 v ds es t next id c e in
-    past_room t0 (is_new ls t0 v ds es) id n (children new id) k.order.still below (renewing_past ls t0 v ds es t next id n k c e i) (counts id (omega (arith, a.newer))) (sym (renewing_below ls t0 v ds es t next id k c e) ∙ sym f ∙ y)
-
-pub renewing_goes : (ls : Layouts) (t0 : Rows) (v : ℕ) (ds : List ℕ) (es : List ℤ) (t new : Rows) (next later : Option ℕ) (id n m : ℕ) (b : Bool) → CanRenew ls t0 v ds es → NumbersBelow 18446744073709551615 t0 → IsRenewing ls t0 v ds es t next → next ≡ Some id
-    → IsUnmet t0 (is_new ls t0 v ds es) next n → new ≡ each (renewed_in ls v t id) t → AreCountedFrom t0 v new → b ≡ is_of t v (parent_of (row_at t id)) → m ≡ cond b (n + children new id - 1) n → later ≡ cond (eqb m 0) None (from new (id + 1))
-    → IsRenewing ls t0 v ds es new later × IsUnmet t0 (is_new ls t0 v ds es) later m
-renewing_goes ls t0 v ds es t new next later id n m b k below c e i g counts f w l =
-    let a : IsAt ls t0 v ds es t id = is_at ls t0 v ds es t next id c e in
-    let s : IsStill t0 = k.order.still in
-    let goes : IsRenewing ls t0 v ds es new (from new (id + 1)) = renewing_more ls t0 v ds es t new next (from new (id + 1)) id s c e g refl in
-    let same : from new (id + 1) ≡ from t0 (id + 1) = ap (λ (x : Rows). from x (id + 1)) goes.rows ∙ from_each (λ j r. row_at new j) t0 (id + 1) in
-    let views : m ≡ cond b (n + children t0 id - 1) n = w ∙ ap (λ x. cond b (n + x - 1) n) (counts id (omega (arith, a.newer))) in
-    let count : m ≡ unmet t0 (is_new ls t0 v ds es) (id + 1) = past_is t0 (is_new ls t0 v ds es) id n m b (renewing_past ls t0 v ds es t next id n k c e i) (f ∙ renewing_below ls t0 v ds es t next id k c e) views in
-    let on : later ≡ cond (eqb m 0) None (from t0 (id + 1)) = l ∙ ap (λ o. cond (eqb m 0) None o) same in (
-      renewing_next ls t0 v ds es new (id + 1) m later k below (omega (arith, a.newer)) (subst (λ (x : Option ℕ). IsRenewing ls t0 v ds es new x) same goes) count on,
-      unmet_next t0 (is_new ls t0 v ds es) (id + 1) m later s count on,
-    )
-
-pub can_left : (ls left : Layouts) (t : Rows) (v id : ℕ) → layout_at left id ≡ layout_at ls id → CanDerive ls t v id → CanDerive left t v id
+can_left : (ls left : Layouts) (t : Rows) (v id : ℕ) → layout_at left id ≡ layout_at ls id → CanDerive ls t v id → CanDerive left t v id
 can_left ls left t v id e c = λ p u y o. ((c p u y o).0, λ g. subst (λ x. IsLayout u (row_at t p).triple.dims (unwrap_or x y)) (sym e) ((c p u y o).1 g))
 
--- of the layouts those of all newer arrays are left
-abbrev pub AreLeft : Layouts → Layouts → Option ℕ → Type 0
-AreLeft ls left None = Unit {0}
-AreLeft ls left (Some n) = (u : ℕ) → n ≤ u → layout_at left u ≡ layout_at ls u
+-- the layouts of the views that are left are there
+abbrev pub AreLeft : Layouts → Layouts → List ℕ → Type 0
+AreLeft ls left ws = (u : ℕ) → is_listed ws u ≡ true → layout_at left u ≡ layout_at ls u
 
-pub left_begins : (ls : Layouts) (next : Option ℕ) → AreLeft ls ls next
-left_begins ls None = tt
-left_begins ls (Some n) = λ u h. refl
+pub can_next : (ls left : Layouts) (t0 : Rows) (v : ℕ) (ds : List ℕ) (es : List ℤ) (t : Rows) (id : ℕ) (ws : List ℕ) → CanRenew ls t0 v ds es → IsRenewing ls t0 v ds es t (id ∷ ws) → AreLeft ls left (id ∷ ws) → CanDerive left t v id
+can_next ls left t0 v ds es t id ws k c a = can_left ls left t v id (a id (first_listed id ws)) (renewing_can ls t0 v ds es t id ws k c)
 
-pub left_here : (ls left : Layouts) (next : Option ℕ) (id : ℕ) → AreLeft ls left next → next ≡ Some id → layout_at left id ≡ layout_at ls id
-left_here ls left None id a e = cc
-left_here ls left (Some n) id a e = (let z : n ≡ id = cc in a id (omega (arith, z)))
-
-pub left_goes : (ls left new : Layouts) (next later : Option ℕ) (id : ℕ) → AreLeft ls left next → next ≡ Some id → ((m : ℕ) → later ≡ Some m → id + 1 ≤ m) → ((u : ℕ) → (u ≡ id → ⊥) → layout_at new u ≡ layout_at left u) → AreLeft ls new later
-left_goes ls left new None later id a e f g = cc
-left_goes ls left new (Some n) None id a e f g = tt
-left_goes ls left new (Some n) (Some m) id a e f g = λ u h. (let z : n ≡ id = cc in
-    let up : id + 1 ≤ m = f m refl in
-    g u (λ q. absurd (omega (arith, q, up, h))) ∙ a u (omega (arith, z, up, h)))
-
-pub later_up : (ls : Layouts) (t0 : Rows) (v : ℕ) (ds : List ℕ) (es : List ℤ) (t new : Rows) (next later : Option ℕ) (id n : ℕ) → IsStill t0 → IsRenewing ls t0 v ds es t next → next ≡ Some id → new ≡ each (renewed_in ls v t id) t → later ≡ cond (eqb n 0) None (from new (id + 1))
-    → (m : ℕ) → later ≡ Some m → id + 1 ≤ m
-later_up ls t0 v ds es t new next later id n s c e g b m q =
-    let all : new ≡ each (λ k r. renewed_in ls v t id k (row_at t k)) t0 = g ∙ ap (each (renewed_in ls v t id)) c.rows ∙ each_each (renewed_in ls v t id) (λ k r. row_at t k) t0 in
-    let f : IsFirst t0 (id + 1) (from new (id + 1)) = next_is (λ k r. renewed_in ls v t id k (row_at t k)) t0 new (id + 1) (from new (id + 1)) s all refl in
-    (subst (λ (x : Option ℕ). IsFirst t0 (id + 1) x) (going_on n (from new (id + 1)) later b m q) f).0
+pub left_goes : (ls left new : Layouts) (t0 : Rows) (v : ℕ) (ds : List ℕ) (es : List ℤ) (t : Rows) (id : ℕ) (ws : List ℕ) → IsRenewing ls t0 v ds es t (id ∷ ws) → AreLeft ls left (id ∷ ws) → ((u : ℕ) → (u ≡ id → ⊥) → layout_at new u ≡ layout_at left u) → AreLeft ls new ws
+left_goes ls left new t0 v ds es t id ws c a g = λ u h. (let up : id < u = c.left.rises.0 u h in
+    g u (λ e. absurd (omega (arith, e, up))) ∙ a u (rest_listed id u ws h))
 
 -- a view that is derived by what is left of the layouts
-pub rows_left : (ls : Layouts) (t0 : Rows) (v : ℕ) (ds : List ℕ) (es : List ℤ) (left : Layouts) (t new : Rows) (next : Option ℕ) (id : ℕ) → IsStill t0 → IsRenewing ls t0 v ds es t next → AreLeft ls left next → next ≡ Some id
+pub rows_left : (ls left : Layouts) (t0 : Rows) (v : ℕ) (ds : List ℕ) (es : List ℤ) (t new : Rows) (id : ℕ) (ws : List ℕ) → CanRenew ls t0 v ds es → IsRenewing ls t0 v ds es t (id ∷ ws) → AreLeft ls left (id ∷ ws)
     → new ≡ each (renewed_in left v t id) t → new ≡ each (renewed_in ls v t id) t
-rows_left ls t0 v ds es left t new next id s c l e g = g ∙ each_left ls left v t t id (renewing_falls ls t0 v ds es t next s c) (left_here ls left next id l e)
+rows_left ls left t0 v ds es t new id ws k c l e = e ∙ each_left ls left v t t id (renewing_falls ls t0 v ds es t (id ∷ ws) k.order.still c) (l id (first_listed id ws))

@@ -1,28 +1,45 @@
--- How many views each array has, and from which number on.
-use Rattle.std.specs.Prelude.{◌≡◌, ℕ, ◌+◌, ◌≤◌, ◌==◌, if◌then◌else◌, Bool, true, List, [], ◌∷◌, Option, Some, None}
-use Rattle.std.specs.Option.{option_map_or}
+-- The views of each array.
+use Rattle.std.specs.Prelude.{◌≡◌, ℕ, ◌+◌, ◌==◌, if◌then◌else◌, Bool, false, length, List, [], ◌∷◌, Option, Some, None}
+use Rattle.std.specs.List.{list_any}
 use Rattle.std.specs.Ordering.{nat_cmp}
 use Rattle.std.specs.Map.{lookup}
 use Rattle.std.specs.BTreeMap.{is_at}
-use Rattle.pdl_nodes.specs.declared.children.Views.{Views}
+use Rattle.std.specs.BTreeSet.{BTreeSet}
 use Rattle.pdl_nodes.specs.Row.{parent_of}
-use Rattle.pdl_nodes.specs.Rows.{Rows, has, row_at}
+use Rattle.pdl_nodes.specs.Rows.{Rows}
 
 abbrev pub Noted : Type 0
-Noted = List (ℕ × Views)
+Noted = List (ℕ × BTreeSet ℕ)
+
+abbrev pub numbers_or : Option (BTreeSet ℕ) → List ℕ
+numbers_or None = []
+numbers_or (Some s) = s.keys
+
+-- the views of v that are noted
+abbrev pub views : Noted → ℕ → List ℕ
+views c v = numbers_or (lookup (is_at (nat_cmp v)) c)
 
 -- how many views of v are noted
 abbrev pub noted : Noted → ℕ → ℕ
-noted c v = option_map_or (λ (w : Views). w.count) (lookup (is_at (nat_cmp v)) c) 0
+noted c v = length (views c v)
 
--- the number that is noted as one that none of them is below
-abbrev pub oldest : Noted → ℕ → ℕ
-oldest c v = option_map_or (λ (w : Views). w.oldest) (lookup (is_at (nat_cmp v)) c) 0
+-- whether a number is among these, as an ordered set says it
+abbrev pub has_number : List ℕ → ℕ → Bool
+has_number us u = list_any (is_at (nat_cmp u)) us
+
+-- whether u is noted as a view of v
+abbrev pub notes : Noted → (v u : ℕ) → Bool
+notes c v u = has_number (views c v) u
 
 -- 1 where a view with this parent is a view of v
 abbrev pub one_of : (parent : Option ℕ) → ℕ → ℕ
 one_of None v = 0
 one_of (Some p) v = if p == v then 1 else 0
+
+-- whether a view with this parent is a view of v
+abbrev pub is_view_of : (parent : Option ℕ) → ℕ → Bool
+is_view_of None v = false
+is_view_of (Some p) v = p == v
 
 -- how many rows are views of v
 abbrev pub children : Rows → ℕ → ℕ
@@ -34,11 +51,23 @@ abbrev pub left : Rows → (ℕ → Bool) → ℕ → ℕ
 left [] t v = 0
 left ((k, r) ∷ rs) t v = (if t k then one_of (parent_of r) v else 0) + left rs t v
 
--- no view of v is older than n
-abbrev pub AreFrom : Rows → (v n : ℕ) → Type 0
-AreFrom rs v n = (u : ℕ) → has rs u ≡ true → parent_of (row_at rs u) ≡ Some v → n ≤ u
+-- whether the row of u is a view of v
+abbrev pub is_view : Rows → (v u : ℕ) → Bool
+is_view [] v u = false
+is_view ((k, r) ∷ rs) v u = if k == u then is_view_of (parent_of r) v else is_view rs v u
 
--- the views of each number are noted
+-- the views of each number are noted, and no others
 pub record AreCounted (rs : Rows) (c : Noted) : Type 0 where
   pub count : (v : ℕ) → noted c v ≡ children rs v
-  pub low : (v : ℕ) → AreFrom rs v (oldest c v)
+  pub those : (v u : ℕ) → notes c v u ≡ is_view rs v u
+
+-- d notes what c does and one view more, of this parent, if there is one
+pub record IsMore (c d : Noted) (parent : Option ℕ) (view : ℕ) : Type 0 where
+  pub count : (v : ℕ) → noted d v ≡ one_of parent v + noted c v
+  pub those : (v u : ℕ) → notes d v u ≡ if view == u then is_view_of parent v else notes c v u
+  pub absent : (v : ℕ) → notes c v view ≡ false
+
+-- both note the same
+pub record AreSame (c d : Noted) : Type 0 where
+  pub count : (v : ℕ) → noted d v ≡ noted c v
+  pub those : (v u : ℕ) → notes d v u ≡ notes c v u

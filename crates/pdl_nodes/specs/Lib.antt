@@ -2,6 +2,7 @@ pub mod Row
 pub mod Staying
 pub mod Rows
 pub mod Children
+pub mod Below
 pub mod Table
 pub mod Holds
 pub mod Changes

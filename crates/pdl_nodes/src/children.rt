@@ -1,22 +1,16 @@
-//! How many views each array has, and from which number on.
-ghost use Rattle.std.specs.Prelude.{◌≡◌, ◌≢◌, ℕ, ◌+◌, ◌-◌, ◌<◌, ◌≤◌, [], Some, OnOk, OnErr};
-ghost use Rattle.pdl_nodes.specs.Children.{noted, oldest, one_of};
+//! The views of each array.
+ghost use Rattle.std.specs.Prelude.{◌≡◌, ◌≢◌, ℕ, ◌+◌, ◌-◌, ◌||◌, ◌==◌, if◌then◌else◌, true, false, [], Some, OnOk, OnErr};
+ghost use Rattle.pdl_nodes.specs.Children.{AreSame, IsMore, has_number, is_view_of, noted, notes, views};
 
 use std::alloc::{AllocError, Global};
-use std::collections::BTreeMap;
+use std::collections::{BTreeMap, BTreeSet};
 use std::marker::Model;
 
-/// The views of one array: how many there are, and a number that none of them is below.
-#[derive(Clone, Copy)]
-pub struct Views {
-    count: u64,
-    oldest: u64,
-}
-
-/// How many views each array has, and from which number on, for those that have any.
+/// The views of each array that has any, by their numbers.
 #[derive(Drop)]
 pub struct Children {
-    by_parent: BTreeMap<u64, Views>,
+    alloc: Global,
+    by_parent: BTreeMap<u64, BTreeSet<u64>>,
 }
 
 impl Model for Children {
@@ -37,21 +31,8 @@ impl Children {
         ensures { result ≡ [] }
     {
         Children {
+            alloc,
             by_parent: BTreeMap::new(alloc),
-        }
-    }
-
-    /// What is known of the views of an array.
-    fn views(&self, id: u64) -> Views
-        ensures count { result.count ≡ noted self.now id }
-        ensures oldest { result.oldest ≡ oldest self.now id }
-    {
-        match self.by_parent.get(&id) {
-            Some(views) => *views,
-            None => Views {
-                count: 0,
-                oldest: 0,
-            },
         }
     }
 
@@ -59,55 +40,57 @@ impl Children {
     pub fn of(&self, id: u64) -> u64
         ensures { result ≡ noted self.now id }
     {
-        self.views(id).count
+        match self.by_parent.get(&id) {
+            Some(views) => views.len() as u64,
+            None => 0,
+        }
     }
 
-    /// A number that no view of an array is below.
-    pub fn oldest(&self, id: u64) -> u64
-        ensures { result ≡ oldest self.now id }
+    /// Puts the views of an array into a set.
+    pub fn copy_views(&self, id: u64, known: &mut BTreeSet<u64>) -> Result<(), AllocError>
+        ensures { OnOk result ((u : ℕ) → has_number known.new.keys u
+            ≡ (has_number known.old.keys u || notes self.now id u)) }
     {
-        self.views(id).oldest
+        match self.by_parent.get(&id) {
+            Some(views) => known.extend(views.iter().copied()),
+            None => Ok(()),
+        }
     }
 
-    /// Counts one view more of an array.
+    /// Notes one view more of an array.
     fn add_to(&mut self, id: u64, view: u64) -> Result<(), AllocError>
+        requires absent { notes self.old id view ≡ false }
         ensures here { OnOk result (noted self.new id ≡ noted self.old id + 1) }
-        ensures others { (v : ℕ) → v ≢ id → noted self.new v ≡ noted self.old v }
-        ensures err { OnErr result (noted self.new id ≡ noted self.old id) }
-        ensures least { OnOk result (oldest self.new id ≤ view) }
-        ensures older { (v : ℕ) → 0 < noted self.old v → oldest self.new v ≤ oldest self.old v }
+        ensures those { OnOk result
+            ((u : ℕ) → notes self.new id u ≡ if view == u then true else notes self.old id u) }
+        ensures others { (v : ℕ) → v ≢ id → views self.new v ≡ views self.old v }
+        ensures err { OnErr result (views self.new id ≡ views self.old id) }
     {
         match self.by_parent.get_mut(&id) {
             Some(views) => {
-                let Some(count) = views.count.checked_add(1) else {
-                    return Err(AllocError);
-                };
-                *views = Views {
-                    count,
-                    oldest: views.oldest.min(view),
-                };
+                views.insert(view)?;
             }
             None => {
-                let first = Views {
-                    count: 1,
-                    oldest: view,
-                };
-                self.by_parent.insert(id, first)?;
+                let mut views = BTreeSet::new(self.alloc);
+                views.insert(view)?;
+                self.by_parent.insert(id, views)?;
             }
         }
         Ok(())
     }
 
-    /// Counts one view less of an array.
-    fn take_from(&mut self, id: u64)
-        ensures here { noted self.new id ≡ noted self.old id - 1 }
-        ensures others { (v : ℕ) → v ≢ id → noted self.new v ≡ noted self.old v }
-        ensures older { (v : ℕ) → oldest self.new v ≤ oldest self.old v }
+    /// Notes one view less of an array.
+    fn take_from(&mut self, id: u64, view: u64)
+        requires noted { notes self.old id view ≡ true }
+        ensures here { noted self.old id ≡ noted self.new id + 1 }
+        ensures those { (u : ℕ) → notes self.new id u
+            ≡ if view == u then false else notes self.old id u }
+        ensures others { (v : ℕ) → v ≢ id → views self.new v ≡ views self.old v }
     {
         match self.by_parent.get_mut(&id) {
             Some(views) => {
-                if views.count > 1 {
-                    views.count -= 1;
+                views.remove(&view);
+                if !views.is_empty() {
                     return;
                 }
             }
@@ -118,12 +101,11 @@ impl Children {
         self.by_parent.remove(&id);
     }
 
-    /// Counts this view more of its parent, if it has one.
+    /// Notes this view more of its parent, if it has one.
     pub fn add(&mut self, parent: Option<u64>, view: u64) -> Result<(), AllocError>
-        ensures ok { OnOk result ((v : ℕ) → noted self.new v ≡ one_of parent v + noted self.old v) }
-        ensures err { OnErr result ((v : ℕ) → noted self.new v ≡ noted self.old v) }
-        ensures least { OnOk result ((v : ℕ) → parent ≡ Some v → oldest self.new v ≤ view) }
-        ensures older { (v : ℕ) → 0 < noted self.old v → oldest self.new v ≤ oldest self.old v }
+        requires absent { (v : ℕ) → notes self.old v view ≡ false }
+        ensures ok { OnOk result (IsMore self.old self.new parent view) }
+        ensures err { OnErr result (AreSame self.old self.new) }
     {
         match parent {
             Some(id) => self.add_to(id, view),
@@ -131,14 +113,13 @@ impl Children {
         }
     }
 
-    /// Counts one view less of its parent, if it has one.
-    pub fn take(&mut self, parent: Option<u64>)
-        requires counted { (v : ℕ) → parent ≡ Some v → 0 < noted self.old v }
-        ensures less { (v : ℕ) → noted self.old v ≡ one_of parent v + noted self.new v }
-        ensures older { (v : ℕ) → oldest self.new v ≤ oldest self.old v }
+    /// Notes this view less of its parent, if it has one.
+    pub fn take(&mut self, parent: Option<u64>, view: u64)
+        requires noted { (v : ℕ) → notes self.old v view ≡ is_view_of parent v }
+        ensures { IsMore self.new self.old parent view }
     {
         match parent {
-            Some(id) => self.take_from(id),
+            Some(id) => self.take_from(id, view),
             None => {}
         }
     }

@@ -5,6 +5,7 @@
 
 mod apart;
 mod children;
+mod descent;
 mod faults;
 mod holds;
 mod laws;
@@ -18,7 +19,6 @@ mod renewing;
 mod table;
 mod upward;
 mod views;
-mod walk;
 
 pub use apart::Apart;
 pub use faults::ViewFault;

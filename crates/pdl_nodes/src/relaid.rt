@@ -134,57 +134,22 @@ impl Table {
         requires still { IsStill self.now }
         requires sound { IsSound (world_of self.now) }
         requires live { has self.now id ≡ true }
-        requires small { NumbersBelow (2 ^ 64 - 1) self.now }
         ensures laid { IfOk result (λ ls. AreRelaid ls self.now id dims.now) }
         ensures allowed { OnOk result (breaks (world_of self.now) id dims.now ≡ false) }
         ensures breaks { IfErr result
             (λ f. f ≡ Breaks → breaks (world_of self.now) id dims.now ≡ true) }
     {
         breaking_laws();
-        let root = self.node(id).root();
         let mut layouts = Relaid::new(alloc);
-        let mut unmet = self.children(id);
-        let start = self.before_views(id);
-        let mut next = self.next_below(unmet, start);
-        while let Some(newer) = next {
-            let is_below = self.relay_in(alloc, root, id, dims, &mut layouts, newer)?;
-            unmet = self.unmet_past(unmet, newer, is_below);
-            next = self.next_below(unmet, newer);
+        let below = self.below(alloc, id)?;
+        for view in below.iter() {
+            self.relay(alloc, id, dims, &mut layouts, *view)?;
         }
         Ok(layouts)
     }
 
-    /// Makes the layout of an array of the family of this root anew, if it is below the array of other
-    /// dimensions, and answers whether it is. In another family there is nothing to make.
-    fn relay_in(
-        &self,
-        alloc: Global,
-        root: u64,
-        id: u64,
-        dims: &Dims,
-        layouts: &mut Relaid,
-        newer: u64,
-    ) -> Result<bool, RelayFault>
-        requires still { IsStill self.now }
-        requires sound { IsSound (world_of self.now) }
-        requires top { has self.now id ≡ true }
-        requires family { root ≡ (row_at self.now id).root }
-        requires live { has self.now newer ≡ true }
-        requires newer { id < newer }
-        requires before { IsRelaying layouts.old self.now id dims.now newer }
-        ensures after { OnOk result (IsRelaying layouts.new self.now id dims.now (newer + 1)) }
-        ensures below { IfOk result (λ b. b ≡ is_listed (path (world_of self.now) newer) id) }
-        ensures breaks { IfErr result
-            (λ f. f ≡ Breaks → breaks (world_of self.now) id dims.now ≡ true) }
-    {
-        if self.node(newer).root() != root {
-            return Ok(false);
-        }
-        self.relay(alloc, id, dims, layouts, newer)
-    }
-
-    /// Makes the layout of a view anew whose parent is the array of other dimensions, or below it,
-    /// and answers whether it is. Those of all older views were made before.
+    /// Makes the layout of a view anew whose parent is the array of other dimensions, or below it.
+    /// Those of all older views were made before.
     fn relay(
         &self,
         alloc: Global,
@@ -192,7 +157,7 @@ impl Table {
         dims: &Dims,
         layouts: &mut Relaid,
         newer: u64,
-    ) -> Result<bool, RelayFault>
+    ) -> Result<(), RelayFault>
         requires still { IsStill self.now }
         requires sound { IsSound (world_of self.now) }
         requires top { has self.now id ≡ true }
@@ -200,21 +165,20 @@ impl Table {
         requires newer { id < newer }
         requires before { IsRelaying layouts.old self.now id dims.now newer }
         ensures after { OnOk result (IsRelaying layouts.new self.now id dims.now (newer + 1)) }
-        ensures below { IfOk result (λ b. b ≡ is_listed (path (world_of self.now) newer) id) }
         ensures breaks { IfErr result
             (λ f. f ≡ Breaks → breaks (world_of self.now) id dims.now ≡ true) }
     {
         breaking_laws();
         let Origin::View { parent, trans, .. } = self.node(newer).origin() else {
-            return Ok(false);
+            return Ok(());
         };
         let Some(above) = new_dims(layouts, id, dims, *parent) else {
-            return Ok(false);
+            return Ok(());
         };
         let made = layout(alloc, trans.get(), above)?;
         // the limits of dimensions are known where they are listed
         let _limits = dims_list(made.dims());
         layouts.insert(alloc, newer, made)?;
-        Ok(true)
+        Ok(())
     }
 }

@@ -1,10 +1,11 @@
 //! Nodes by their numbers: a slab, and the key of each number.
-ghost use Rattle.std.specs.Prelude.{◌≡◌, ◌≢◌, ℕ, ◌+◌, ◌-◌, ◌<◌, ◌≤◌, ◌^◌, ◌==◌, ◌∷◌, if◌then◌else◌, [], true, false, length, is_none, Some, None, IfSome, OnOk, OnErr};
+ghost use Rattle.std.specs.Prelude.{◌≡◌, ◌≢◌, ℕ, ◌+◌, ◌-◌, ◌<◌, ◌≤◌, ◌^◌, ◌==◌, ◌∷◌, ◌||◌, if◌then◌else◌, [], true, false, length, is_none, Some, None, IfSome, OnOk, OnErr};
 ghost use Rattle.std.specs.Option.{IsSome};
 ghost use Rattle.slab.specs.Slab.{HasRoomFor};
 ghost use Rattle.pdl_shape.specs.Shape.{size_of};
 ghost use Rattle.pdl_world.specs.Cut.{has_views};
-ghost use Rattle.pdl_nodes.specs.Children.{children, noted, oldest, one_of};
+ghost use Rattle.pdl_nodes.specs.Below.{AreBelow};
+ghost use Rattle.pdl_nodes.specs.Children.{AreSame, IsMore, children, has_number, is_view, is_view_of, notes};
 ghost use Rattle.pdl_nodes.specs.Marked.{AreListed};
 ghost use Rattle.pdl_registry.specs.Numbered.{IsAbove, IsPut, Rises, value_at};
 ghost use Rattle.pdl_nodes.specs.Table.{IsTable, rows_of};
@@ -29,6 +30,7 @@ use pdl_registry::Numbered;
 use pdl_shape::{Dims, shape_laws, triple_laws};
 use slab::Slab;
 use std::alloc::{AllocError, Global};
+use std::collections::BTreeSet;
 use std::marker::Model;
 use std::sync::ledger::Ledger;
 
@@ -56,7 +58,7 @@ impl Model for Table {
         AreCounted (rows_of t.nodes t.keys) t.children };
 }
 
-/// Keeps the key of a new number, and counts one view more of its parent, if it has one. A refusal
+/// Keeps the key of a new number, and notes it as a view of its parent, if it has one. A refusal
 /// changes neither.
 fn put_key(
     keys: &mut Numbered<usize>,
@@ -67,21 +69,18 @@ fn put_key(
 ) -> Result<(), AllocError>
     requires ordered { Rises keys.old }
     requires above { IsAbove id keys.old }
+    requires absent { (v : ℕ) → notes children.old v id ≡ false }
     ensures ordered { Rises keys.new }
     ensures updates { OnOk result (IsPut keys.old keys.new id (Some key)) }
-    ensures counted { OnOk result
-        ((v : ℕ) → noted children.new v ≡ one_of parent v + noted children.old v) }
-    ensures least { OnOk result ((v : ℕ) → parent ≡ Some v → oldest children.new v ≤ id) }
-    ensures older { (v : ℕ) → 0 < noted children.old v
-        → oldest children.new v ≤ oldest children.old v }
+    ensures more { OnOk result (IsMore children.old children.new parent id) }
     ensures kept { OnErr result (keys.new ≡ keys.old) }
-    ensures same { OnErr result ((v : ℕ) → noted children.new v ≡ noted children.old v) }
+    ensures same { OnErr result (AreSame children.old children.new) }
 {
     children.add(parent, id)?;
     match keys.insert(id, key) {
         Ok(()) => Ok(()),
         Err(refused) => {
-            children.take(parent);
+            children.take(parent, id);
             Err(refused)
         }
     }
@@ -97,18 +96,15 @@ fn make_room(
 ) -> Result<(), AllocError>
     requires ordered { Rises keys.old }
     requires above { IsAbove id keys.old }
+    requires absent { (v : ℕ) → notes children.old v id ≡ false }
     ensures ordered { Rises keys.new }
     ensures room { OnOk result (HasRoomFor nodes.new 1) }
     ensures updates { OnOk result
         (IsPut keys.old keys.new id (Some nodes.new.vacant_key)) }
-    ensures counted { OnOk result
-        ((v : ℕ) → noted children.new v ≡ one_of parent v + noted children.old v) }
+    ensures more { OnOk result (IsMore children.old children.new parent id) }
     ensures rest { nodes.new ≡ record nodes.old { capacity = nodes.new.capacity } }
-    ensures least { OnOk result ((v : ℕ) → parent ≡ Some v → oldest children.new v ≤ id) }
-    ensures older { (v : ℕ) → 0 < noted children.old v
-        → oldest children.new v ≤ oldest children.old v }
     ensures kept { OnErr result (keys.new ≡ keys.old) }
-    ensures same { OnErr result ((v : ℕ) → noted children.new v ≡ noted children.old v) }
+    ensures same { OnErr result (AreSame children.old children.new) }
 {
     nodes.reserve(1)?;
     let key = nodes.vacant_key();
@@ -228,7 +224,7 @@ impl Table {
         // By a call, as in `insert`.
         drop(node);
         self.marked.forget(root, id);
-        self.children.take(parent);
+        self.children.take(parent, id);
         parent
     }
 
@@ -343,15 +339,12 @@ impl Table {
         self.children.of(id)
     }
 
-    /// A number from an array's own on that all its views are above.
-    pub(crate) fn before_views(&self, id: u64) -> u64
-        ensures from { id ≤ result }
-        ensures small { id < 2 ^ 64 - 1 → result < 2 ^ 64 - 1 }
-        ensures views { (u : ℕ) → has self.now u ≡ true → parent_of (row_at self.now u) ≡ Some id
-            → id < u → result < u }
+    /// Puts the views of an array into a set.
+    pub(crate) fn copy_views(&self, id: u64, known: &mut BTreeSet<u64>) -> Result<(), AllocError>
+        ensures { OnOk result ((u : ℕ) → has_number known.new.keys u
+            ≡ (has_number known.old.keys u || is_view self.now id u)) }
     {
-        let oldest = self.children.oldest(id);
-        if id < oldest { oldest - 1 } else { id }
+        self.children.copy_views(id, known)
     }
 
     /// How many nodes there are.
@@ -430,82 +423,55 @@ impl Table {
         let node = &self.nodes[key];
         let parent = node.parent();
         self.nodes[key].become_root(alloc, id, dims, kept);
-        self.children.take(parent);
+        self.children.take(parent, id);
     }
 
-    /// Derives a view of the family of this root anew, over the new root or what was derived anew
-    /// before, by the layout that was made anew for it, or else its own, and answers whether it did.
-    /// In another family there is nothing to derive.
-    fn renew_in(
-        &mut self,
-        alloc: Global,
-        root: u64,
-        new: u64,
-        id: u64,
-        layouts: &mut Relaid,
-    ) -> bool
-        requires live { has self.old id ≡ true }
-        requires can { CanDerive layouts.old self.old new id }
-        requires others { (row_at self.old id).root ≢ root
-            → each (renewed_in layouts.old new self.old id) self.old ≡ self.old }
-        requires apart { (row_at self.old id).root ≢ root
-            → is_of self.old new (parent_of (row_at self.old id)) ≡ false }
-        ensures rows { self.new ≡ each (renewed_in layouts.old new self.old id) self.old }
-        ensures left { (u : ℕ) → u ≢ id → layout_at layouts.new u ≡ layout_at layouts.old u }
-        ensures below { result ≡ is_of self.old new (parent_of (row_at self.old id)) }
-    {
-        if self.node(id).root() != root {
-            return false;
-        }
-        self.renew_one(alloc, new, id, layouts)
-    }
-
-    /// Derives a view anew of its parent, if that is of the family of the new root, and answers
-    /// whether it is.
-    fn renew_one(&mut self, alloc: Global, new: u64, id: u64, layouts: &mut Relaid) -> bool
+    /// Derives a view anew of its parent, by the layout that was made anew for it, or else its own.
+    /// There is nothing to derive where its parent isn't of the family of the new root.
+    fn renew_one(&mut self, alloc: Global, new: u64, id: u64, layouts: &mut Relaid)
         requires live { has self.old id ≡ true }
         requires can { CanDerive layouts.old self.old new id }
         ensures rows { self.new ≡ each (renewed_in layouts.old new self.old id) self.old }
         ensures left { (u : ℕ) → u ≢ id → layout_at layouts.new u ≡ layout_at layouts.old u }
-        ensures below { result ≡ is_of self.old new (parent_of (row_at self.old id)) }
     {
         let Some(parent) = self.node(id).parent() else {
-            return false;
+            return;
         };
         let above = self.node(parent);
         if above.root() != new {
-            return false;
+            return;
         }
         let ty = above.ty();
         let above = above.shown(parent);
         let key = self.keys[id];
         self.nodes[key].renew(alloc, id, ty, &above, layouts.take(id));
-        true
     }
 
-    /// An array becomes a root of these dimensions and elements, and each view that reaches it is
-    /// derived anew: by the layouts that were made anew, for other dimensions, or by their own,
-    /// where none were made, for a cut.
-    pub fn renew(&mut self, alloc: Global, id: u64, dims: &Dims, kept: Buf, layouts: Relaid)
+    /// An array becomes a root of these dimensions and elements, and each view below it is derived
+    /// anew: by the layouts that were made anew, for other dimensions, or by their own, where none
+    /// were made, for a cut. It looks at no other array.
+    pub fn renew(
+        &mut self,
+        alloc: Global,
+        id: u64,
+        dims: &Dims,
+        kept: Buf,
+        layouts: Relaid,
+        below: &[u64],
+    )
         requires can { CanRenew layouts self.old id dims.now kept.elems }
         requires same_type { kept.ty ≡ (row_at self.old id).ty }
-        requires small { NumbersBelow (2 ^ 64 - 1) self.old }
+        requires below { AreBelow self.old id below.now }
         ensures { self.new ≡ renew layouts self.old id dims.now kept.elems }
     {
         shape_laws();
         triple_laws();
         view_laws();
         window_laws();
-        let root = self.node(id).root();
-        let mut unmet = self.children(id);
-        let start = self.before_views(id);
-        let mut next = self.next_below(unmet, start);
         self.become_root(alloc, id, dims, kept);
         let mut layouts = layouts;
-        while let Some(newer) = next {
-            let is_below = self.renew_in(alloc, root, id, newer, &mut layouts);
-            unmet = self.unmet_past(unmet, newer, is_below);
-            next = self.next_below(unmet, newer);
+        for view in below.iter() {
+            self.renew_one(alloc, id, *view, &mut layouts);
         }
         self.unlist(id);
     }

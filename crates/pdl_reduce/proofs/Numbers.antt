@@ -85,6 +85,12 @@ pub least_in : (P : ℤ → Type 0) (s : ℤ) (xs : List ℤ) → P s → All P 
 least_in P s [] p h = p
 least_in P s (x ∷ xs) p h = least_in P (int_min s x) xs (either P (int_lt x s) x s (All-head P x xs h) p) (All-tail P x xs h)
 
+-- numbers of the type stay as they are
+pub wrapped_same : WrappingLaws → (ty : Ty) (xs : List ℤ) → All (InRange ty) xs → xs ≡ map (wrapped ty) xs
+wrapped_same laws ty [] all = refl
+wrapped_same laws ty (x ∷ xs) all =
+    ap₂ (λ (z : ℤ) (zs : List ℤ). z ∷ zs) (sym (laws.same ty x (All-head (InRange ty) x xs all))) (wrapped_same laws ty xs (All-tail (InRange ty) x xs all))
+
 -- the greatest may be looked for from the least machine number on, and the least from the greatest one on
 pub greatest_from : WrappingLaws → (ty : Ty) (xs : List ℤ) → 0 < length xs → All (InRange ty) xs → wrapped ty (fold int_max (lowest Longlong) xs) ≡ greatest xs
 greatest_from laws ty [] some all = absurd (omega (arith, some))

@@ -1,22 +1,26 @@
--- Rows that follow one another in a broadcast.
-use Rattle.std.proofs.Common.{◌≡◌, ℕ, zero, suc, ◌+◌, ◌-◌, ◌*◌, ◌/◌, ◌%◌, ◌<◌, ◌≤◌, ℤ, pos, List, [], ◌∷◌, ◌++◌, length, map, take, drop, get_or, arith, inl, inr, ap, ap₂, sym, ◌∙◌, div-add-mod'}
-use Rattle.std.specs.Prelude.{if◌then◌else◌, ◌==◌}
-use Rattle.std.proofs.lemmas.Bool.{cases_lt}
+-- The rows through which a broadcast goes in order.
+use Rattle.std.proofs.Common.{◌≡◌, ℕ, zero, suc, ◌+◌, ◌-◌, ◌*◌, ◌/◌, ◌%◌, ◌<◌, ◌≤◌, ◌≢◌, ℤ, pos, List, [], ◌∷◌, ◌++◌, length, map, take, drop, get_or, arith, inl, inr, ap, ap₂, sym, ◌∙◌, div-add-mod'}
+use Rattle.std.specs.Prelude.{if◌then◌else◌, ◌==◌, slice_index_or}
+use Rattle.std.proofs.lemmas.Bool.{cases_eq, cases_lt}
 use Rattle.std.proofs.lemmas.Bool.Decides.{nat_tests}
 use Rattle.std.proofs.lemmas.List.{drop-append-le, drop-drop, drop-map, drop-take, get_or_append_left, get_or-append_right, get_or-take, length-append, length-drop, length-map, length-take-le, take-append-le, take-map, take-take, take_at}
-use Rattle.std.proofs.lemmas.Nat.{mod-mul-add}
+use Rattle.std.proofs.lemmas.Nat.{div-mul-add, mod-mul-add}
 use Rattle.std.proofs.lemmas.Slice.{take-put_mid}
 use Rattle.std.proofs.Math.Arith.{mod-mul}
 use Rattle.std.proofs.Math.Nat.{div-one, mod-one, mul_comm, mul-le-mul}
 use Rattle.pdl_elem.specs.declared.Ty.{Ty}
 use Rattle.pdl_elem.specs.Numbers.{wrapped}
 use Rattle.pdl_reduce.specs.declared.matrices.Sizes.{Sizes}
-use Rattle.pdl_reduce.specs.Blocks.{AreFirst, block_at, nth_block, products_at, sum_at}
+use Rattle.pdl_reduce.specs.Blocks.{GoesInTurn, block_at, nth_block, products_at, sum_at}
 use Rattle.pdl_shape.specs.Shape.{size_of}
 use Rattle.pdl_shape.specs.Stretched.{stretched_position}
 use borrow.Rule.Slice.PartMut.{post_of, put_mid}
 
 -- ---- positions
+
+-- these sizes are the first ones of a broadcast
+abbrev pub AreFirst : (sizes joined : List ℕ) → Type 0
+AreFirst sizes joined = joined ≡ sizes ++ drop (length sizes) joined
 
 size_both : (ds es : List ℕ) → size_of (ds ++ es) ≡ size_of ds * size_of es
 size_both [] es = omega arith
@@ -27,7 +31,7 @@ product_some zero b h = absurd (omega (arith, h))
 product_some (suc a) b h = omega arith
 
 -- the first sizes of a broadcast that has places have positions
-pub first_some : (ds joined : List ℕ) → AreFirst ds joined → 0 < size_of joined → 0 < size_of ds
+first_some : (ds joined : List ℕ) → AreFirst ds joined → 0 < size_of joined → 0 < size_of ds
 first_some ds joined first some =
     product_some (size_of ds) (size_of (drop (length ds) joined)) (omega (arith, some, ap size_of first, size_both ds (drop (length ds) joined)))
 
@@ -47,8 +51,67 @@ position_left (d ∷ ds) es p some =
     ∙ omega (arith, mod-mul p {m = size_of ds} {c = d} rest first, ap (λ (n : ℕ). p % n) (mul_comm d (size_of ds)), mul_comm d (p / d % size_of ds))
 
 -- the position that the first sizes of a broadcast use at a place
-pub first_position : (ds joined : List ℕ) (p : ℕ) → AreFirst ds joined → 0 < size_of ds → stretched_position ds joined p ≡ p % size_of ds
+first_position : (ds joined : List ℕ) (p : ℕ) → AreFirst ds joined → 0 < size_of ds → stretched_position ds joined p ≡ p % size_of ds
 first_position ds joined p first some = ap (λ (js : List ℕ). stretched_position ds js p) first ∙ position_left ds (drop (length ds) joined) p some
+
+-- ---- turns
+
+-- the first sizes of a broadcast
+pub first_turn : (ds joined : List ℕ) (rows : ℕ) → rows ≡ size_of ds → AreFirst ds joined → GoesInTurn ds joined (record { rows = rows; times = 1 })
+first_turn ds joined rows e first = record {
+  rows = e;
+  some_rows = λ some. omega (arith, e, first_some ds joined first some);
+  some_times = λ some. omega arith;
+  row = λ some p. first_position ds joined p first (first_some ds joined first some) ∙ ap₂ (λ (q n : ℕ). q % n) (sym (div-one p)) (sym e);
+}
+
+none_turn : (p times rows : ℕ) → rows ≡ 1 → 0 ≡ p / times % rows
+none_turn p times rows e = sym (ap (λ (n : ℕ). p / times % n) e ∙ mod-one (p / times))
+
+first_size_some : (joined : List ℕ) → 0 < size_of joined → 0 < slice_index_or joined 0 1
+first_size_some [] some = omega arith
+first_size_some (j ∷ js) some = product_some j (size_of js) some
+
+-- after a first size that is stretched
+later_position : (d j : ℕ) (ds js : List ℕ) (p : ℕ) → d ≡ 1 → AreFirst ds js → 0 < size_of js → stretched_position (d ∷ ds) (j ∷ js) p ≡ p / j % size_of (d ∷ ds)
+later_position d j ds js p one first some =
+    let rest : stretched_position ds js (p / j) ≡ p / j % size_of ds = first_position ds js (p / j) first (first_some ds js first some) in
+    let F : ℕ → ℕ = λ e. (if e == 1 then 0 else p % j) + e * stretched_position ds js (p / j) in
+    let scaled : d * size_of ds ≡ size_of ds = ap (λ (e : ℕ). e * size_of ds) one ∙ omega arith in
+    ap F one ∙ omega (arith, rest) ∙ ap (λ (n : ℕ). p / j % n) (sym scaled)
+
+later_row : (ds joined : List ℕ) (p : ℕ) → slice_index_or ds 0 1 ≡ 1 → AreFirst (drop 1 ds) (drop 1 joined) → 0 < size_of joined
+    → stretched_position ds joined p ≡ p / slice_index_or joined 0 1 % size_of ds
+later_row [] joined p one first some = none_turn p (slice_index_or joined 0 1) 1 (omega arith)
+later_row (d ∷ []) [] p one first some = none_turn p 1 (d * 1) (omega (arith, one))
+later_row (d ∷ e ∷ ds) [] p one first some = absurd (omega (arith, ap (λ (ns : List ℕ). length ns) first))
+later_row (d ∷ ds) (j ∷ js) p one first some = later_position d j ds js p one first (second_some j (size_of js) some)
+
+later_some : (ds joined : List ℕ) → slice_index_or ds 0 1 ≡ 1 → AreFirst (drop 1 ds) (drop 1 joined) → 0 < size_of joined → 0 < size_of ds
+later_some [] joined one first some = omega arith
+later_some (d ∷ []) [] one first some = omega (arith, one)
+later_some (d ∷ e ∷ ds) [] one first some = absurd (omega (arith, ap (λ (ns : List ℕ). length ns) first))
+later_some (d ∷ ds) (j ∷ js) one first some =
+    omega (arith, first_some ds js first (second_some j (size_of js) some), ap (λ (e : ℕ). e * size_of ds) one)
+
+pub later_turn : (ds joined : List ℕ) (rows times : ℕ) → rows ≡ size_of ds → times ≡ slice_index_or joined 0 1 → slice_index_or ds 0 1 ≡ 1 → AreFirst (drop 1 ds) (drop 1 joined)
+    → GoesInTurn ds joined (record { rows = rows; times = times })
+later_turn ds joined rows times e t one first = record {
+  rows = e;
+  some_rows = λ some. omega (arith, e, later_some ds joined one first some);
+  some_times = λ some. omega (arith, t, first_size_some joined some);
+  row = λ some p. later_row ds joined p one first some ∙ ap₂ (λ (m n : ℕ). p / m % n) (sym t) (sym e);
+}
+
+-- the row is the same until its turn is over
+pub same_turn : (place j times rows : ℕ) → (rows ≢ 1 → place % times + j < times) → place / times % rows ≡ (place + j) / times % rows
+same_turn place j times rows h =
+    elim (cases_eq rows 1) [
+      | inl one ↦ sym (none_turn place times rows one) ∙ none_turn (place + j) times rows one
+      | inr more ↦
+          let e : place + j ≡ place / times * times + (place % times + j) = omega (arith, div-add-mod' place times) in
+          sym (ap (λ (n : ℕ). n / times % rows) e ∙ ap (λ (n : ℕ). n % rows) (div-mul-add (place / times) times (place % times + j) (h more)))
+    ]
 
 -- ---- rows of a block
 
@@ -69,14 +132,13 @@ part_of xs k size n h =
     ap (λ (m : ℕ). take size (drop k (take m xs))) back ∙ ap (take size) (drop-take k (n - k) xs) ∙ take-take size (n - k) (drop k xs) (omega (arith, h))
 
 -- one row that is used at each place
-pub same_row : (ty : Ty) (es part rest : List ℤ) (size place j : ℕ) → size ≤ length es → part ≡ map (wrapped ty) (take size (drop 0 es))
-    → take size (drop (j * 0) (part ++ rest)) ≡ nth_block ty size es ((place + j) % 1)
-same_row ty es part rest size place j fits is =
+pub same_row : (ty : Ty) (es part rest : List ℤ) (size row j : ℕ) → row * size + size ≤ length es → part ≡ map (wrapped ty) (take size (drop (row * size) es))
+    → take size (drop (j * 0) (part ++ rest)) ≡ nth_block ty size es row
+same_row ty es part rest size row j fits is =
     let none : j * 0 ≡ 0 = omega arith in
-    let start : 0 ≡ (place + j) % 1 * size = omega (arith, ap (λ (n : ℕ). n * size) (mod-one (place + j))) in
-    let long : length part ≡ size = ap (λ (zs : List ℤ). length zs) is ∙ length-map (take size (drop 0 es)) (wrapped ty) ∙ length-take-le size es fits in
+    let long : length part ≡ size =
+    ap (λ (zs : List ℤ). length zs) is ∙ length-map (take size (drop (row * size) es)) (wrapped ty) ∙ length-take-le size (drop (row * size) es) (omega (arith, fits, length-drop (row * size) es)) in
     ap (λ (n : ℕ). take size (drop n (part ++ rest))) none ∙ take_at part rest size long ∙ is
-    ∙ ap (λ (n : ℕ). map (wrapped ty) (take size (drop n es))) start
 
 -- one of the rows that follow one another
 pub next_row : (ty : Ty) (es part rest : List ℤ) (size places first rows place j n : ℕ) → n ≡ places * size → first ≡ place % rows * size → place % rows + places ≤ rows → j < places → 0 < rows
@@ -96,17 +158,18 @@ next_row ty es part rest size places first rows place j n all start within low s
 -- ---- sums
 
 -- the sum of the products of two rows is what the pairing has at the place
-pub sum_is : (ty : Ty) (s : Sizes) (les res : List ℤ) (ls rs joined : List ℕ) (p : ℕ) (lb rb : List ℤ) → s.height ≡ 1 → s.width ≡ 1 → AreFirst ls joined → AreFirst rs joined → 0 < size_of ls → 0 < size_of rs
-    → lb ≡ nth_block ty s.left_depth les (p % size_of ls) → rb ≡ nth_block ty s.right_depth res (p % size_of rs)
+pub sum_is : (ty : Ty) (s : Sizes) (les res : List ℤ) (ls rs joined : List ℕ) (p lrow rrow : ℕ) (lb rb : List ℤ) → s.height ≡ 1 → s.width ≡ 1
+    → stretched_position ls joined p ≡ lrow → stretched_position rs joined p ≡ rrow
+    → lb ≡ nth_block ty s.left_depth les lrow → rb ≡ nth_block ty s.right_depth res rrow
     → wrapped ty (sum_at s lb rb s.depth 0 0) ≡ products_at ty s les res ls rs joined p
-sum_is ty s les res ls rs joined p lb rb high wide lfirst rfirst lsome rsome l r =
+sum_is ty s les res ls rs joined p lrow rrow lb rb high wide lat rat l r =
     let F : ℕ → ℕ → ℕ → ℕ → ℤ = λ count w lc rc. wrapped ty (sum_at s (block_at ty lc les ls joined (p / count)) (block_at ty rc res rs joined (p / count)) s.depth (p % count / w) (p % count % w)) in
     let one : s.height * s.width ≡ 1 = ap₂ (λ (a b : ℕ). a * b) high wide in
     let left : s.left_depth * s.height ≡ s.left_depth = omega (arith, ap (λ (n : ℕ). s.left_depth * n) high) in
     let right : s.width * s.right_depth ≡ s.right_depth = omega (arith, ap (λ (n : ℕ). n * s.right_depth) wide) in
     let G : ℕ → ℕ → ℕ → ℤ = λ q i j. wrapped ty (sum_at s (block_at ty s.left_depth les ls joined q) (block_at ty s.right_depth res rs joined q) s.depth i j) in
-    let lq : lb ≡ block_at ty s.left_depth les ls joined p = l ∙ ap (nth_block ty s.left_depth les) (sym (first_position ls joined p lfirst lsome)) in
-    let rq : rb ≡ block_at ty s.right_depth res rs joined p = r ∙ ap (nth_block ty s.right_depth res) (sym (first_position rs joined p rfirst rsome)) in
+    let lq : lb ≡ block_at ty s.left_depth les ls joined p = l ∙ ap (nth_block ty s.left_depth les) (sym lat) in
+    let rq : rb ≡ block_at ty s.right_depth res rs joined p = r ∙ ap (nth_block ty s.right_depth res) (sym rat) in
     ap₂ (λ (us vs : List ℤ). wrapped ty (sum_at s us vs s.depth 0 0)) lq rq
     ∙ sym (ap₂ (λ (count w : ℕ). F count w (s.left_depth * s.height) (s.width * s.right_depth)) one wide
     ∙ ap₂ (λ (lc rc : ℕ). F 1 1 lc rc) left right

@@ -1,5 +1,5 @@
 -- A step of the proof: the pairings are products of blocks of elements as matrices.
-use Rattle.std.specs.Prelude.{◌≡◌, ◌<◌, ◌≤◌, ℕ, ◌+◌, ◌*◌, ◌/◌, ◌%◌, ◌==◌, ℤ, pos, ◌*ℤ◌, if◌then◌else◌, List, ◌++◌, length, get_or, map, take, drop, Option, Some, None}
+use Rattle.std.specs.Prelude.{◌≡◌, ◌<◌, ◌≤◌, ℕ, ◌+◌, ◌*◌, ◌/◌, ◌%◌, ◌==◌, ℤ, pos, ◌*ℤ◌, if◌then◌else◌, List, length, get_or, map, take, drop, Option, Some, None}
 use Rattle.std.specs.List.{range_with_len}
 use Rattle.pdl_elem.specs.declared.Ty.{Ty}
 use Rattle.pdl_elem.specs.Numbers.{wrapped}
@@ -11,6 +11,7 @@ use Rattle.pdl_reduce.specs.declared.Pairing.{Pairing}
 use Rattle.pdl_reduce.specs.declared.Pairing.TheVariants.{Inner, Outer, Matmult}
 use Rattle.pdl_reduce.specs.declared.matrices.Sizes.{Sizes}
 use Rattle.pdl_reduce.specs.declared.sums.TheConstants.{SHORT}
+use Rattle.pdl_reduce.specs.declared.sums.Turn.{Turn}
 
 -- the coordinate that is used along a size: 0 along a size of 1, which is stretched
 abbrev pub cut : (size coordinate : ℕ) → ℕ
@@ -129,9 +130,14 @@ pub record AreShortRows (s : Sizes) : Type 0 where
   pub left : s.left_depth ≤ SHORT
   pub right : s.right_depth ≤ SHORT
 
--- these sizes are the first ones of a broadcast
-abbrev pub AreFirst : (sizes joined : List ℕ) → Type 0
-AreFirst sizes joined = joined ≡ sizes ++ drop (length sizes) joined
+-- at each place, a broadcast uses the row that the turn says: each row at so many places that follow
+-- one another, in order, and then again from the first one on
+pub record GoesInTurn (sizes joined : List ℕ) (turn : Turn) : Type 0 where
+  pub rows : turn.rows ≡ size_of sizes
+  pub some_rows : 0 < size_of joined → 0 < turn.rows
+  pub some_times : 0 < size_of joined → 0 < turn.times
+  pub row : 0 < size_of joined → (place : ℕ) →
+      stretched_position sizes joined place ≡ place / turn.times % turn.rows
 
 -- the products of a pairing's blocks
 abbrev pub block_products : Pairing → Ty → Sizes → (a b : List ℤ)

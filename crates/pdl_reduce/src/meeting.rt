@@ -8,7 +8,7 @@ ghost use Rattle.pdl_reduce.specs.Blocks.{IsHeld, Ready, all_products, nth_block
 
 use crate::collected::Collected;
 use crate::matrices::{Sizes, add_product};
-use crate::sums::{are_short_rows, put_sums, read_wrapped};
+use crate::sums::{put_sums, read_wrapped, short_rows};
 use pdl_broadcast::BroadcastWalk;
 use pdl_buf::{Packing, Strided};
 use pdl_elem::Ty;
@@ -124,7 +124,7 @@ pub(crate) fn products(
         IfOk result (λ made. made ≡ record { ty = ty; elems = elems }) }
 {
     let mut made = Collected::new(alloc, ty, count)?;
-    if are_short_rows(sizes, left_sizes, right_sizes, joined) {
+    if let Some(turns) = short_rows(sizes, left_sizes, right_sizes, joined) {
         put_sums(
             alloc,
             ty,
@@ -134,6 +134,7 @@ pub(crate) fn products(
             left_sizes,
             right_sizes,
             joined,
+            turns,
             &mut made,
         )?;
     } else {

@@ -18,7 +18,7 @@ use Rattle.pdl_machine.specs.Then.{and_then}
 use Rattle.pdl_machine.specs.State.{State, with_arrays, held, AreLive, IsWhole}
 use Rattle.pdl_machine.specs.Watches.{Watches}
 use Rattle.pdl_scope.specs.Answers.{Prints}
-use Rattle.pdl_scope.specs.Scope.{Scope, arrays_of, scope_in, state_in, Grows}
+use Rattle.pdl_scope.specs.Scope.{Scope, arrays_of, scope_in, state_in, Grows, AreRootsFresh}
 use Rattle.pdl_scope.proofs.FlowsStay.{GrowthLaws, flows_joined}
 
 abbrev state_of : Names → Watches → Flows → Arrays → State
@@ -73,11 +73,19 @@ came laws names ws fs e t d id whole is sound =
     let j : with_new (arrays_of e) d ≡ (arrays_of t, id) = joins e t d id is in
     subst (λ (p : Arrays × ℕ). IsJoined names ws fs (arrays_of e) p) j (joined laws names ws fs (arrays_of e) d whole (subst S (sym j) sound))
 
--- and nothing else
-pub grown : GrowthLaws → (names : Names) (ws : Watches) (fs : Flows) (e t : Engine) (d : ArrayDef) (id : ℕ) → IsWhole (state_in names ws fs e) → Joins e id d t → IsSound t.world → Grows (scope_in names ws fs e) (scope_in names ws fs t)
-grown laws names ws fs e t d id whole is sound =
+-- and nothing else, which can be lent if it is a root
+pub grown : GrowthLaws → (names : Names) (ws : Watches) (fs : Flows) (e t : Engine) (d : ArrayDef) (id : ℕ) → IsWhole (state_in names ws fs e) → Joins e id d t → IsSound t.world → AreRootsFresh t ((id, d) ∷ [])
+    → Grows (scope_in names ws fs e) (scope_in names ws fs t)
+grown laws names ws fs e t d id whole is sound roots =
     let j = came laws names ws fs e t d id whole is sound in
-    record { names = refl; arrays = j.grown; watches = refl; flows = refl; still = j.still; stay = is.stay }
+    record {
+      names = refl;
+      arrays = record { more = (id, d) ∷ []; is = is.world; roots = roots };
+      watches = refl;
+      flows = refl;
+      still = j.still;
+      stay = is.stay;
+    }
 
 -- arrays that may be lent now are the same arrays
 pub readied_arrays : (e t : Engine) → SameArrays e t → arrays_of t ≡ arrays_of e

@@ -19,7 +19,9 @@ pub mod Bounds
 pub mod Costs
 pub mod Dearer
 pub mod Newest
+pub mod Bound
 pub mod Released
+pub mod Waited
 pub mod Needed
 pub mod Leaving
 pub mod Halves

@@ -150,14 +150,7 @@ more_adds ((k, view p t) ∷ more) w = (let rest : total_size w ≤ total_size (
 pub none_lost : GrowingLosesNothing
 none_lost old new grown = (let all : total_size new.arrays.world ≡ total_size (grown.arrays.more ++ old.arrays.world) = ap total_size grown.arrays.is in let less = more_adds grown.arrays.more old.arrays.world in omega (arith, all, less))
 
--- one more new root, after others
-pub root_within : (mid new : Scope) (m : Made) (old : Scope) (before now after v : ℕ) → now + total_size old.arrays.world ≤ before + total_size mid.arrays.world → new_root mid.arrays m ≡ Ok (new.arrays, v)
-    → after ≤ now + count_moved m.elems → after + total_size old.arrays.world ≤ before + total_size new.arrays.world
-root_within mid new m old before now after v so_far is counted =
-    let all : total_size new.arrays.world ≡ count_moved m.elems + total_size mid.arrays.world = root_adds mid.arrays new.arrays m v is in
-    omega (arith, so_far, all, counted)
-
-abbrev moved : Made → ℕ
+abbrev pub moved : Made → ℕ
 moved m = count_moved m.elems
 
 -- one array more is made of its elements

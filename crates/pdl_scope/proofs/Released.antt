@@ -21,7 +21,7 @@ has_below ((j, e) ∷ w) n k d b (inl same) = (let low : j < n = b.0 in let is :
 has_below ((j, e) ∷ w) n k d b (inr i) = has_below w n k d b.1 i
 
 -- a root of a sound world is seen as one
-root_seen : (w : World) (r : ℕ) (d : ArrayDef) (ty : Ty) (ds : List ℕ) (es : List ℤ) → IsSound w → Has w r d → d ≡ root ty ds es → look w r ≡ Some (look_of_root r ty ds)
+pub root_seen : (w : World) (r : ℕ) (d : ArrayDef) (ty : Ty) (ds : List ℕ) (es : List ℤ) → IsSound w → Has w r d → d ≡ root ty ds es → look w r ≡ Some (look_of_root r ty ds)
 root_seen [] r d ty ds es s h is = absurd h
 root_seen ((k, e) ∷ w) r d ty ds es s (inl same) is =
     let here : look ((k, root ty ds es) ∷ w) k ≡ Some (look_of_root k ty ds) = rw (eq-eqb k k refl) refl in
@@ -62,7 +62,7 @@ swept_less ((k, d) ∷ w) held s n alive = by_kept (λ us. swept_less w us s n a
         let b : gone_among s n alive w ≤ gone_among s n alive ((k, d) ∷ w) = less_among s n alive k d w in
         omega (arith, a, b)
 
-some_live : (o : Option Look) → IsSomeAnd o (λ l. Unit {0}) → is_some o ≡ true
+pub some_live : (o : Option Look) → IsSomeAnd o (λ l. Unit {0}) → is_some o ≡ true
 some_live None live = absurd live
 some_live (Some l) live = refl
 
@@ -175,6 +175,7 @@ pub let_go_refl : (e : Engine) (steps : ℕ) → IsLazy e → HasLetGo e e steps
 let_go_refl e steps lazy = record {
   left = bounds.left_refl e;
   waits = waits_refl e (λ v b live is. (lazy.waits v b live is).live);
+  risen = omega arith;
   counted = λ keeps. refl;
   written = omega arith;
 }
@@ -187,6 +188,7 @@ let_go_more laws e t n u before now after first sound later lazy r counted h =
     record {
       left = bounds.left_more laws e t n u sound h.left r;
       waits = waits_more e t n u seen h.waits r;
+      risen = (let before_now : before ≤ now = h.risen in omega (arith, before_now, counted));
       counted = bounds.unmoved laws e t n u before now after sound lazy h.left r h.counted counted;
       written = moved_more e t n u before now after first later h.left.seen seen h.waits r h.written counted;
     }

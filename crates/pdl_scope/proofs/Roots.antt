@@ -106,7 +106,7 @@ new_front names (y ∷ xs) x b n some here count told =
     ap (λ k. (if b then 0 else 1) + k) (count ∙ ap (new_among names) all) ∙ ap (λ z. (if z then 0 else 1) + new_among names xs) (sym t)
 
 -- the names and the new ones are as many after a binding
-room_stays : {A : Type 0} (names : Named A) (x : List ℕ) (v : A) (xs : List (List ℕ)) → length (with_name names x v) + new_among (with_name names x v) xs ≡ length names + new_among names (x ∷ xs)
+pub room_stays : {A : Type 0} (names : Named A) (x : List ℕ) (v : A) (xs : List (List ℕ)) → length (with_name names x v) + new_among (with_name names x v) xs ≡ length names + new_among names (x ∷ xs)
 room_stays {A = A} names x v xs = by_found (found names x) refl
   where
     by_found : (o : Option A) → found names x ≡ o → length (with_name names x v) + new_among (with_name names x v) xs ≡ length names + new_among names (x ∷ xs)
@@ -151,16 +151,16 @@ some_too_many names xs room is told = by_count (length names + new_among names x
         (λ within. absurd (let no : not false ≡ false = rw within at h in cc))
 
 -- the state after a binding for which there is room
-abbrev with_bound : State → List ℕ → ℕ → State
+abbrev pub with_bound : State → List ℕ → ℕ → State
 with_bound s x id = record s { names = record s.names { arrays = with_name s.names.arrays x id } }
 
-is_bound : (s : State) (x : List ℕ) (id : ℕ) → is_full_for names_limit s.names.arrays x ≡ false → bind_value s x (s.arrays, id) ≡ Ok (with_bound s x id, [])
+pub is_bound : (s : State) (x : List ℕ) (id : ℕ) → is_full_for names_limit s.names.arrays x ≡ false → bind_value s x (s.arrays, id) ≡ Ok (with_bound s x id, [])
 is_bound s x id free = rw free refl
 
 abbrev pub left : State → List (List ℕ) → List Made → ℕ → Stepped
 left s xs ms i = roots_bound s (drop i xs) (drop i ms)
 
-abbrev then_bound : List (List ℕ) → List Made → Stepped → Stepped
+abbrev pub then_bound : List (List ℕ) → List Made → Stepped → Stepped
 then_bound xs ms stepped = and_then stepped (λ after. roots_bound after.0 xs ms)
 
 -- where there isn't room for all

@@ -11,16 +11,17 @@ use Rattle.pdl_world.specs.Sound.{IsLive}
 use Rattle.pdl_world.specs.Windows.{base}
 use Rattle.pdl_world.specs.World.{World, dims_in, root, view}
 use Rattle.pdl_world.specs.declared.Trans.{Trans}
+use Rattle.pdl_engine.specs.Held.{written_back}
 use Rattle.pdl_engine.specs.Reading.{read_steps}
 use Rattle.pdl_engine.specs.State.{State as Engine, IsLazy, ready_steps}
+use Rattle.pdl_machine.specs.Arrays.{Arrays}
 use Rattle.pdl_machine.specs.Kernels.{kernel_of, outputs_count}
 use Rattle.pdl_machine.specs.Names.{KernelTexts, Names, found}
 use Rattle.pdl_machine.specs.Outcome.{new_root, new_view}
 use Rattle.pdl_machine.specs.State.{IsWhole}
+use Rattle.pdl_machine.specs.Step.{Stepped}
 use Rattle.pdl_machine.specs.declared.fault.Fault.{Fault}
 use Rattle.pdl_scope.specs.Scope.{Scope, engine_of, machine, Grows}
-use Rattle.pdl_scope.specs.declared.fault.ScopeFault.{ScopeFault}
-use Rattle.pdl_scope.specs.declared.fault.ScopeFault.TheVariants.{NoMemory}
 
 -- no array takes more steps to read than before
 abbrev pub ReadsNoDearer : (old new : Engine) → Type 0
@@ -55,13 +56,16 @@ total_size [] = 0
 total_size ((k, root ty ds es) ∷ w) = count_moved es + total_size w
 total_size ((k, view p t) ∷ w) = kept_size ((k, view p t) ∷ w) k + total_size w
 
--- It takes at most a step for each element that moves for the arrays that came, and so many besides.
--- Where memory ran out it says nothing.
-abbrev pub MovesWithin : {T : Type 0} → (most : ℕ) → (old new : Scope) → (before after : ℕ)
-    → Result T ScopeFault → Type 0
-MovesWithin most old new before after (Err NoMemory) = Unit {0}
-MovesWithin most old new before after _ =
-    after + total_size old.arrays.world ≤ before + total_size new.arrays.world + most
+-- the arrays of a state that a statement leaves; where it is refused, those that were left
+abbrev pub arrays_after : Stepped → (left : Arrays) → Arrays
+arrays_after (Ok after) left = after.0.arrays
+arrays_after (Err e) left = left
+
+-- it takes at most a step for each element that moves for the arrays that came up to these, and so
+-- many besides
+abbrev pub MovesUpTo : (most : ℕ) → (old : Scope) → (late : Arrays) → (before after : ℕ) → Type 0
+MovesUpTo most old late before after =
+    after + total_size old.arrays.world ≤ before + total_size late.world + most
 
 -- whether a kernel can run on arrays of these shapes: it has so many outputs, and they resolve
 abbrev pub can_run : Kernel → (wanted : ℕ) → List ArgShape → Bool
@@ -124,3 +128,11 @@ abbrev pub GrowingLosesNothing : Type 0
 GrowingLosesNothing =
     (old new : Scope) → Grows old new
     → total_size old.arrays.world ≤ total_size new.arrays.world
+
+-- where nothing but new arrays came, nothing is written back when arrays go, if all stay that were
+-- there
+abbrev pub NewArraysGoUnwritten : Type 0
+NewArraysGoUnwritten =
+    (old new : Scope) → IsInOrder old → IsInOrder new → Grows old new → (left : World)
+    → ((v : ℕ) → IsLive old.arrays.world v → IsLive left v)
+    → written_back (engine_of new) left new.arrays.world ≡ 0

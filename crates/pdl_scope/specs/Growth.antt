@@ -1,13 +1,16 @@
 -- What follows at once of how scopes change: nothing changes by itself, and one change may follow
 -- another.
-use Rattle.std.proofs.Common.{◌≡◌, [], ◌++◌, append_assoc, refl, sym, ap, subst, ◌∙◌}
+use Rattle.std.proofs.Common.{◌≡◌, [], ◌∷◌, ◌++◌, append_assoc, refl, sym, ap, subst, ◌∙◌}
 use Rattle.pdl_world.specs.Sound.{IsLive}
+use Rattle.pdl_world.specs.World.{World, root, view}
+use Rattle.pdl_engine.specs.State.{State as Engine, StayFresh}
 use Rattle.pdl_machine.specs.Arrays.{Arrays}
 use Rattle.pdl_machine.specs.Flows.{Flows}
+use Rattle.pdl_machine.specs.Laws.{AreGrown}
 use Rattle.pdl_machine.specs.Names.{Names}
 use Rattle.pdl_machine.specs.State.{State}
 use Rattle.pdl_machine.specs.Watches.{Watches}
-use Rattle.pdl_scope.specs.Scope.{Scope, machine, OnlyReads, Grows}
+use Rattle.pdl_scope.specs.Scope.{Scope, engine_of, machine, AreRootsFresh, Grows, OnlyReads}
 
 -- nothing was read
 pub reads_refl : (s : Scope) → OnlyReads s s
@@ -46,7 +49,7 @@ unread a b g =
 pub reads_grow : (a b : Scope) → OnlyReads a b → Grows a b
 reads_grow a b g = record {
   names = g.names;
-  arrays = record { more = []; is = ap (λ (r : Arrays). r.world) g.arrays };
+  arrays = record { more = []; is = ap (λ (r : Arrays). r.world) g.arrays; roots = tt };
   watches = g.watches;
   flows = g.flows;
   still = λ v live. (let P : Arrays → Type 0 = λ r. IsLive r.world v in subst P (sym g.arrays) live);
@@ -57,12 +60,27 @@ reads_grow a b g = record {
 pub grows_refl : (s : Scope) → Grows s s
 grows_refl s = record {
   names = refl;
-  arrays = record { more = []; is = refl };
+  arrays = record { more = []; is = refl; roots = tt };
   watches = refl;
   flows = refl;
   still = λ v live. live;
   stay = λ v is. is;
 }
+
+-- roots that can be lent still can be
+pub roots_stay : (e f : Engine) → StayFresh e f → (w : World) → AreRootsFresh e w → AreRootsFresh f w
+roots_stay e f stay [] fresh = tt
+roots_stay e f stay ((k, root ty ds es) ∷ w) fresh =
+    (stay k fresh.0, roots_stay e f stay w fresh.1)
+roots_stay e f stay ((k, view p t) ∷ w) fresh = roots_stay e f stay w fresh
+
+-- the roots of both can be lent where those of each can
+pub roots_both : (e : Engine) (w u : World) → AreRootsFresh e w → AreRootsFresh e u
+    → AreRootsFresh e (w ++ u)
+roots_both e [] u first second = second
+roots_both e ((k, root ty ds es) ∷ w) u first second =
+    (first.0, roots_both e w u first.1 second)
+roots_both e ((k, view p t) ∷ w) u first second = roots_both e w u first second
 
 -- arrays came, and then others
 pub grows_trans : (a b c : Scope) → Grows a b → Grows b c → Grows a c
@@ -72,9 +90,15 @@ grows_trans a b c g h = record {
     more = h.arrays.more ++ g.arrays.more;
     is = h.arrays.is ∙ ap (λ w. h.arrays.more ++ w) g.arrays.is
         ∙ sym (append_assoc h.arrays.more g.arrays.more a.arrays.world);
+    roots = roots_both (engine_of c) h.arrays.more g.arrays.more h.arrays.roots
+        (roots_stay (engine_of b) (engine_of c) h.stay g.arrays.more g.arrays.roots);
   };
   watches = h.watches ∙ g.watches;
   flows = h.flows ∙ g.flows;
   still = λ v live. h.still v (g.still v live);
   stay = λ v is. h.stay v (g.stay v is);
 }
+
+-- what the machine sees of it
+pub as_grown : (a b : Scope) → Grows a b → AreGrown a.arrays b.arrays
+as_grown a b g = record { more = g.arrays.more; is = g.arrays.is }

@@ -1,11 +1,11 @@
 -- What letting go leaves: what is seen, what can be lent, what waits, and how many steps it takes.
-use Rattle.std.specs.Prelude.{◌≡◌, ℕ, ◌+◌, ◌≤◌, if◌then◌else◌, true, List, [], ◌∷◌, ◌++◌, take, drop, get_or, is_some}
+use Rattle.std.specs.Prelude.{◌≡◌, ℕ, ◌+◌, ◌≤◌, if◌then◌else◌, true, List, [], ◌∷◌, ◌++◌, take, drop, is_some}
 use Rattle.pdl_world.specs.Sound.{IsLive, IsSound}
 use Rattle.pdl_world.specs.World.{World, look, root, view}
 use Rattle.pdl_engine.specs.Held.{gone_from, left_from, written_back}
 use Rattle.pdl_engine.specs.Reading.{KeepsViews}
 use Rattle.pdl_engine.specs.State.{State as Engine, is_fresh, waiting, waiting_at, waiting_size}
-use Rattle.pdl_machine.specs.Flows.{Flow, Flows, all_read, needs_of}
+use Rattle.pdl_machine.specs.Flows.{Flows, all_read, needs_of}
 use Rattle.pdl_machine.specs.Following.{AreFlows}
 use Rattle.pdl_scope.specs.Holding.{AreHeld, LetsGo}
 use Rattle.pdl_scope.specs.Scope.{arrays_of}
@@ -39,6 +39,7 @@ pub record StillWaits (old new : Engine) : Type 0 where
 pub record HasLetGo (first now : Engine) (before after : ℕ) : Type 0 where
   pub left : IsLeft first now
   pub waits : StillWaits first now
+  pub risen : before ≤ after
   pub counted : KeepsViews first.world now.world → after ≡ before
   pub written : after ≤ before + written_back first now.world first.world
 

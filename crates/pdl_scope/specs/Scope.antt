@@ -1,11 +1,12 @@
 -- What a scope keeps, and how it is seen.
-use Rattle.std.specs.Prelude.{◌≡◌, ℕ, ◌+◌, ◌≤◌, ◌==◌, if◌then◌else◌, ℤ, List, [], ◌∷◌, ◌++◌, length, map}
+use Rattle.std.specs.Prelude.{◌≡◌, ℕ, ◌+◌, ◌≤◌, ◌==◌, if◌then◌else◌, ℤ, true, List, [], ◌∷◌, ◌++◌, length, map}
 use Rattle.pdl_elem.specs.declared.Ty.{Ty}
 use Rattle.pdl_buf.specs.declared.made.Made.{Made}
 use Rattle.pdl_world.specs.Sound.{IsLive}
 use Rattle.pdl_world.specs.Swept.{KeepsAll}
+use Rattle.pdl_world.specs.World.{World, root, view}
 use Rattle.pdl_engine.specs.Held.{count_at}
-use Rattle.pdl_engine.specs.State.{State as Engine, StayFresh}
+use Rattle.pdl_engine.specs.State.{State as Engine, StayFresh, is_fresh}
 use Rattle.pdl_machine.specs.Names.{KernelTexts, Named, Names, names_limit}
 use Rattle.pdl_sig.specs.declared.ArgShape.{ArgShape}
 use Rattle.pdl_machine.specs.Arrays.{Arrays, array_in}
@@ -14,7 +15,6 @@ use Rattle.pdl_machine.specs.Flows.{Flows, all_read}
 use Rattle.pdl_machine.specs.State.{State, held, IsWhole}
 use Rattle.pdl_machine.specs.Watches.{Watches}
 use Rattle.pdl_scope.specs.declared.limits.TheConstants.{MOST_READS, MOST_SLOTS}
-use Rattle.pdl_machine.specs.Laws.{AreGrown}
 use Rattle.pdl_machine.specs.Outcome.{Seen, array}
 
 -- the engine's arrays as the machine's
@@ -100,11 +100,23 @@ pub record OnlyReads (old new : Scope) : Type 0 where
   pub flows : new.flows ≡ old.flows
   pub stay : StayFresh (engine_of old) (engine_of new)
 
+-- each root among these arrays can be lent
+abbrev pub AreRootsFresh : Engine → World → Type 0
+AreRootsFresh e [] = Unit {0}
+AreRootsFresh e ((k, root ty ds es) ∷ w) = (is_fresh e k ≡ true) × AreRootsFresh e w
+AreRootsFresh e ((k, view p t) ∷ w) = AreRootsFresh e w
+
+-- Nothing but new arrays came, and each root that came can be lent.
+pub record HaveCome (old : Arrays) (new : Engine) : Type 0 where
+  pub more : World
+  pub is : new.world ≡ more ++ old.world
+  pub roots : AreRootsFresh new more
+
 -- Names, watches and flows are the same, nothing but new arrays came, each array that was there is
--- there, and each that could be lent can be lent still.
+-- there, and each that could be lent can be lent still; so can each root that came.
 pub record Grows (old new : Scope) : Type 0 where
   pub names : new.names ≡ old.names
-  pub arrays : AreGrown old.arrays new.arrays
+  pub arrays : HaveCome old.arrays (engine_of new)
   pub watches : new.watches ≡ old.watches
   pub flows : new.flows ≡ old.flows
   pub still : (v : ℕ) → IsLive old.arrays.world v → IsLive new.arrays.world v

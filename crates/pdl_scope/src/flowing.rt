@@ -19,6 +19,7 @@ ghost use Rattle.pdl_machine.specs.State.{AreLive, with_flow};
 ghost use Rattle.pdl_machine.specs.Step.{begun, bind_value, bound};
 ghost use Rattle.pdl_machine.specs.Watches.{attached};
 ghost use Rattle.pdl_scope.specs.Answers.{IfScript, Runs};
+ghost use Rattle.pdl_scope.specs.Costs.{arrays_after, MovesUpTo};
 ghost use Rattle.pdl_scope.specs.Flowing.{HasRootAt, RootsRise, have_flow, kept_shape, read_by};
 ghost use Rattle.pdl_scope.specs.Holding.{AreHeld, LetsGo, SameButHolds};
 ghost use Rattle.pdl_scope.specs.LetGo.{GoesOn, HadFlows, HasFlows, IsHeldByFlows, KeepsNeeded, without_at};
@@ -71,6 +72,11 @@ impl Scope {
             Runs wanted self.old self.new [] [] result }
         ensures counted { let e = engine_of self.old in
             steps.new ≤ steps.old + (read_steps e value + count_moved (elements e.world value)) }
+        ensures within { let arrays = self.old.arrays in
+            let flowing = begun (machine self.old) arrays (tree_of formula) in
+            let wanted = bound flowing name.now (new_root arrays (array_in arrays value)) in
+            let most = read_steps (engine_of self.old) value in
+            MovesUpTo most self.old (arrays_after wanted arrays) steps.old steps.new }
         ensures refused { IfScript result
             ((self.new ≡ self.old) × (steps.new ≡ steps.old)) }
     {

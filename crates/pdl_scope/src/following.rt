@@ -1,6 +1,6 @@
 //! What flows make of an assignment: a plan of assignments to different roots, each found before
 //! one of them is made (PDL::Dataflow).
-ghost use Rattle.std.specs.Prelude.{◌≡◌, ◌≢◌, None, Some, ◌+◌, ◌≤◌, ◌∷◌, ◌++◌, [], true, false, List, All, IfOk, IfSome, OnOk, is_some, length, option_map, sum_by};
+ghost use Rattle.std.specs.Prelude.{◌≡◌, ◌≢◌, ◌↔◌, None, Some, ◌+◌, ◌≤◌, ◌∷◌, ◌++◌, [], true, false, List, All, IfOk, IfSome, IsTrue, OnOk, is_some, length, option_map, sum_by};
 ghost use Rattle.pdl_buf.specs.Made.{IsMade};
 ghost use Rattle.pdl_ops.specs.Answers.{refusal_named};
 ghost use Rattle.pdl_flow.specs.Formula.{arrays_in};
@@ -135,7 +135,7 @@ fn is_altered(plan: &[Change], root: ArrayId) -> bool
 
 /// Whether an array is the one that is noted.
 fn is_noted(noted: Option<ArrayId>, id: ArrayId) -> bool
-    ensures { result ≡ true → noted ≡ Some id }
+    ensures { IsTrue result ↔ (noted ≡ Some id) }
 {
     match noted {
         Some(known) => known == id,

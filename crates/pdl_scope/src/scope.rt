@@ -18,7 +18,7 @@ ghost use Rattle.pdl_machine.specs.Outcome.{new_root, new_view};
 ghost use Rattle.pdl_machine.specs.Step.{bind_value, roots_bound, kernel_named};
 ghost use Rattle.pdl_scope.specs.Scope.{engine_of, machine, scope_in, Grows, OnlyReads, array_of, arrays_seen, shape_in};
 ghost use Rattle.pdl_scope.specs.Answers.{AnswersAs, Evaluates, IfScript, Runs};
-ghost use Rattle.pdl_scope.specs.Costs.{can_call, IsInOrder, MovesWithin};
+ghost use Rattle.pdl_scope.specs.Costs.{arrays_after, can_call, IsInOrder, MovesUpTo};
 
 use crate::calling::kernel_outputs;
 use crate::fault::ScopeFault;
@@ -257,8 +257,8 @@ impl Scope {
     }
 
     /// Binds names to new arrays in order. Where there isn't room for all of them none is bound, and
-    /// nothing is made. It takes at most a step for each element of the new arrays; and at most one
-    /// for each number of the outputs that isn't 0, whatever it answers.
+    /// nothing is made. Whatever it answers, it takes at most a step for each element that moves for
+    /// the arrays of the names; so at most one for each number of the outputs that isn't 0.
     pub fn bind_roots<L: Ledger>(
         &mut self,
         bound: &[Name],
@@ -268,7 +268,9 @@ impl Scope {
         requires { All (λ m. IsMade m.ty m.dims m.elems) outputs.now }
         ensures runs { let wanted = roots_bound (machine self.old) bound.now outputs.now in
             Runs wanted self.old self.new [] [] result }
-        ensures within { MovesWithin 0 self.old self.new steps.old steps.new result }
+        ensures within { let wanted = roots_bound (machine self.old) bound.now outputs.now in
+            let late = arrays_after wanted self.old.arrays in
+            MovesUpTo 0 self.old late steps.old steps.new }
         ensures counted { let most = sum_by (λ m. count_moved m.elems) outputs.now in
             steps.new ≤ steps.old + most }
         ensures refused { IfScript result
@@ -302,6 +304,7 @@ impl Scope {
         ensures unseen { tidy (machine self.new) ≡ tidy (machine self.old) }
         ensures stay { (v : ℕ) → IsLive self.new.arrays.world v
             → is_fresh (engine_of self.old) v ≡ true → is_fresh (engine_of self.new) v ≡ true }
+        ensures risen { steps.old ≤ steps.new }
         ensures counted { KeepsViews self.old.arrays.world self.new.arrays.world
             → steps.new ≡ steps.old }
         ensures written { let e = engine_of self.old in

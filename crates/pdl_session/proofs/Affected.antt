@@ -10,11 +10,12 @@ use Rattle.pdl_world.specs.Sound.{IsLive, IsSound}
 use Rattle.pdl_world.specs.Swept.{is_listed}
 use Rattle.pdl_world.specs.World.{World, Look}
 use Rattle.pdl_machine.specs.Arrays.{Arrays}
-use Rattle.pdl_machine.specs.Flows.{Flow, Flows, affected, all_read, is_flow, reads_from}
+use Rattle.pdl_machine.specs.Flows.{Flows, affected, all_read, is_flow, reads_from}
 use Rattle.pdl_machine.specs.Laws.{AreGrown}
 use Rattle.pdl_machine.specs.State.{AreLive, IsWhole}
 use Rattle.pdl_machine.specs.Step.{target_in}
 use Rattle.pdl_syntax.specs.Tree.{Tree}
+use Rattle.pdl_scope.specs.Growth.{as_grown}
 use Rattle.pdl_scope.specs.Scope.{Scope, machine, Grows}
 use Rattle.pdl_session.specs.Evaluations.{followers_of, followers_in}
 use Rattle.pdl_session.proofs.Grown.{grown_seen}
@@ -59,7 +60,7 @@ grown_roots older old new (v ∷ vs) grown sound live = (grown_root older old ne
 
 -- a target is of the same root once its value came
 pub late_root : OlderStay → (mid late : Scope) (v : ℕ) → Grows mid late → IsWhole (machine late) → IsLive mid.arrays.world v → root_of late.arrays.world v ≡ root_of mid.arrays.world v
-late_root older mid late v g whole live = grown_root older mid.arrays late.arrays v g.arrays whole.sound live
+late_root older mid late v g whole live = grown_root older mid.arrays late.arrays v (as_grown mid late g) whole.sound live
 
 -- it is no flow's still
 pub late_unflowed : OlderStay → (mid late : Scope) (v : ℕ) → Grows mid late → IsWhole (machine late) → IsLive mid.arrays.world v → is_flow mid.flows (root_of mid.arrays.world v) ≡ false
@@ -74,7 +75,7 @@ late_affected older mid late v g whole after live =
     ap (λ (fs : Flows). affected late.arrays.world fs (root_of late.arrays.world v ∷ [])) g.flows
     ∙ ap (λ r. affected late.arrays.world mid.flows (r ∷ [])) (late_root older mid late v g after live)
     ∙ affected_same mid.arrays.world late.arrays.world mid.flows (root_of mid.arrays.world v ∷ [])
-    (grown_roots older mid.arrays late.arrays (all_read mid.flows) g.arrays after.sound (read_live mid.arrays mid.flows whole.flows))
+    (grown_roots older mid.arrays late.arrays (all_read mid.flows) (as_grown mid late g) after.sound (read_live mid.arrays mid.flows whole.flows))
 
 -- the flows that a target affects
 pub aimed_affected : (old mid : Scope) (to : Tree) (v : ℕ) → target_in (machine old) to ≡ Ok (mid.arrays, v) → Grows old mid → followers_in old to ≡ affected mid.arrays.world mid.flows (root_of mid.arrays.world v ∷ [])

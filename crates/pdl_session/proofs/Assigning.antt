@@ -13,6 +13,7 @@ use Rattle.pdl_machine.specs.Then.{and_then}
 use Rattle.pdl_machine.specs.Watches.{attached, notices}
 use Rattle.pdl_scope.specs.declared.fault.ScopeFault.{ScopeFault}
 use Rattle.pdl_scope.specs.Answers.{Prints, Runs}
+use Rattle.pdl_scope.specs.Growth.{as_grown}
 use Rattle.pdl_scope.specs.Scope.{Scope, machine, Grows}
 use Rattle.pdl_session.proofs.Needs.{live_behind}
 
@@ -29,6 +30,6 @@ pub assigned_told : (r : Result (Vec (Vec Notice Global) Global) ScopeFault) (nu
 assigned_told (Err e) number old late new values growing whole after g ran told = tt
 assigned_told (Ok all) number old late new values growing whole after g ran told =
     told ∙ ap (notices number late.arrays.world new.arrays.world) g.watches
-    ∙ growing number old.arrays late.arrays new.arrays.world old.watches g.arrays after.sound
+    ∙ growing number old.arrays late.arrays new.arrays.world old.watches (as_grown old late g) after.sound
     (live_behind old.arrays.world (map (λ n. n.1) old.names.arrays) (attached old.watches) whole.live)
     ∙ ap (notices number old.arrays.world new.arrays.world) (sym (same_watches values (machine late) (machine new) [] [] ran ∙ g.watches))

@@ -1,7 +1,7 @@
 -- What statements move at most, from what their parts move.
 use Rattle.std.proofs.Common.{◌≡◌, ℕ, ℤ, ◌+◌, ◌≤◌, Bool, true, false, List, [], ◌∷◌, Option, Some, None, Result, Ok, Err, refl, sym, ap, subst, ◌∙◌, arith}
 use Rattle.std.specs.Option.{option_map_or}
-use Rattle.std.specs.Prelude.{◌++◌, pos, not, map, Box, IfOk, IfSome, IsSomeAnd, OnOk, length}
+use Rattle.std.specs.Prelude.{pos, not, map, Box, IfOk, IfSome, OnOk, length}
 use Rattle.std.specs.Ordering.{int_eq}
 use Rattle.std.specs.Global.{Global}
 use Rattle.std.proofs.lemmas.List.Sums.{count_by-le-length}
@@ -11,12 +11,12 @@ use Rattle.pdl_syntax.specs.declared.tree.Expr.{Expr, Number, Named, List as Lis
 use Rattle.pdl_syntax.specs.TreeOf.{tree_of}
 use Rattle.pdl_shape.specs.Shape.{size_of}
 use Rattle.pdl_world.specs.Laws.{OlderStay}
-use Rattle.pdl_world.specs.Sound.{IsLive, IsSound}
+use Rattle.pdl_world.specs.Sound.{IsLive}
 use Rattle.pdl_world.specs.World.{World, Look, look, dims_in}
 use Rattle.pdl_engine.specs.Reading.{IsWarm, KeepsViews, read_steps}
 use Rattle.pdl_engine.specs.State.{is_fresh}
 use Rattle.pdl_lexemes.specs.declared.AssignOp.{AssignOp}
-use Rattle.pdl_syntax.specs.StatementTree.{StatementTree, View, assign, show, view_of}
+use Rattle.pdl_syntax.specs.StatementTree.{View, assign, show, view_of}
 use Rattle.pdl_syntax.specs.declared.tree.ViewCall.{ViewCall}
 use Rattle.pdl_syntax.specs.Tree.{Tree, number, named, literal, unary, binary, call}
 use Rattle.pdl_machine.specs.Arrays.{Arrays}
@@ -25,13 +25,13 @@ use Rattle.pdl_machine.specs.State.{IsWhole}
 use Rattle.pdl_machine.specs.Value.{known, value_of}
 use Rattle.pdl_machine.specs.Watches.{attached}
 use Rattle.pdl_scope.specs.declared.fault.ScopeFault.{ScopeFault}
-use Rattle.pdl_scope.specs.Growth.{reads_refl}
+use Rattle.pdl_scope.specs.Growth.{as_grown, reads_refl}
 use Rattle.pdl_scope.specs.Scope.{Scope, engine_of, machine, Grows, OnlyReads}
 use Rattle.pdl_machine.specs.Flows.{affected}
 use Rattle.pdl_world.specs.Paths.{root_of}
 use Rattle.pdl_session.proofs.Affected.{late_affected}
 use Rattle.pdl_session.proofs.Grown.{grown_seen}
-use Rattle.pdl_session.specs.Bounds.{AssignsPlainly, EvaluatesPlainly, IsBare, LeavesReadable, MakesRoot, MovesPlainly, PrintsPlainly, plain_count}
+use Rattle.pdl_session.specs.Bounds.{AssignsPlainly, EvaluatesPlainly, IsBare, LeavesReadable, MakesRoot, MovesPlainly, plain_count}
 
 -- a target without views is a bare name
 pub no_views_of : (vs : List ViewCall) → map view_of vs ≡ [] → vs ≡ []
@@ -109,7 +109,7 @@ assigned_plainly older x [] sign e old mid late new before now then after to fro
               ∙ ap (λ u. affected old.arrays.world old.flows (root_of old.arrays.world u ∷ [])) to_is ∙ unread in
               let moved : after ≤ then + size_of (dims_in late.arrays.world to) = at_once alone (grown.stay to fresh_mid) root.fresh none_late in
               let seen : look late.arrays.world to ≡ look old.arrays.world v =
-              grown_seen older mid.arrays late.arrays to grown.arrays whole.sound live ∙ ap (λ s. look s.arrays.world to) at.same ∙ ap (look old.arrays.world) to_is in
+              grown_seen older mid.arrays late.arrays to (as_grown mid late grown) whole.sound live ∙ ap (λ s. look s.arrays.world to) at.same ∙ ap (look old.arrays.world) to_is in
               let sizes : size_of (dims_in late.arrays.world to) ≡ size_of (dims_in old.arrays.world v) = ap (λ o. size_of (option_map_or (λ (l : Look). l.dims) o [])) seen in
               (let a = at.unmoved in let b = root.counted in omega (arith, a, b, moved, sizes));
           roots = λ u is. subst (λ s. KeepsViews late.arrays.world s.arrays.world) at.same root.roots u (views u is);

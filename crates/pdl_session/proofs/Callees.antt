@@ -6,7 +6,7 @@ use Rattle.pdl_machine.specs.declared.fault.Fault.{Fault}
 use Rattle.pdl_machine.specs.declared.fault.Fault.TheVariants.{UnknownFunction}
 use Rattle.pdl_machine.specs.Arrays.{Arrays}
 use Rattle.pdl_machine.specs.Builtin.{builtin_of}
-use Rattle.pdl_machine.specs.Calls.{callee_among, callee_of, only_root, outputs_of, several, value_by, call_value}
+use Rattle.pdl_machine.specs.Calls.{builtin_value, callee_among, callee_of, only_root, outputs_of, several, value_by, call_value}
 use Rattle.pdl_machine.specs.Kernels.{kernel_outputs}
 use Rattle.pdl_machine.specs.Names.{KernelTexts, Names, found}
 use Rattle.pdl_machine.specs.Outcome.{Given as Argument, Seen, Valued}
@@ -19,6 +19,10 @@ value_among k a given b = and_then (or_fault UnknownFunction (callee_among b k))
 
 abbrev several_among : Option KernelTexts → ℕ → List Seen → Option Builtin → Result (List Made) Fault
 several_among k wanted seen b = and_then (or_fault UnknownFunction (callee_among b k)) (several wanted seen)
+
+-- the name of a built-in call
+pub builtin_called : (names : Names) (f : List ℕ) (a : Arrays) (given : List Given) (b : Builtin) → builtin_of f ≡ Some b → call_value names f a (arguments given) ≡ builtin_value b a (arguments given)
+builtin_called names f a given b some = ap (value_among (found names.kernels f) a (arguments given)) some
 
 -- the name of a kernel, or of nothing
 pub kernel_called : (names : Names) (f : List ℕ) (a : Arrays) (given : List Given) → builtin_of f ≡ None

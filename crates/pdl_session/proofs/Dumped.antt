@@ -1,5 +1,5 @@
 -- What a dump prints.
-use Rattle.std.proofs.Common.{◌≡◌, ℕ, List, [], Bool, true, false, Result, Ok, Err, refl, sym, ap, subst, ◌∙◌}
+use Rattle.std.proofs.Common.{◌≡◌, ℕ, ◌+◌, ◌≤◌, List, [], Bool, true, false, Result, Ok, Err, refl, sym, ap, subst, ◌∙◌, arith}
 use Rattle.std.specs.Prelude.{◌++◌, if◌then◌else◌, length, map, nat_lt, is_some}
 use Rattle.std.specs.List.{list_any}
 use Rattle.pdl_image.specs.Dump.{is_too_long, dump as dump_of}
@@ -13,17 +13,26 @@ use Rattle.pdl_machine.specs.Tidy.{tidy}
 use Rattle.pdl_machine.specs.Names.{names_limit}
 use Rattle.pdl_machine.specs.Dumps.{definition, dump_lines, dumped, names_wanted, text_within}
 use Rattle.pdl_machine.specs.DumpLaws.{DumpsNameByNumbers}
-use Rattle.pdl_machine.specs.Step.{Done, Stepped, effect, step, done as done_by}
+use Rattle.pdl_machine.specs.Step.{Done, effect, step, done as done_by}
 use Rattle.pdl_scope.specs.declared.fault.ScopeFault.{ScopeFault}
-use Rattle.pdl_scope.specs.Answers.{AnswersAs, IsFault}
+use Rattle.pdl_scope.specs.Answers.{IsFault}
+use Rattle.pdl_scope.specs.Dumping.{is_refused_unread}
 use Rattle.pdl_scope.specs.Growth.{reads_grow, unread}
 use Rattle.pdl_scope.specs.Scope.{Scope, machine, OnlyReads}
 use Rattle.pdl_print.specs.Pieces.{Begins}
 use Rattle.pdl_session.specs.Advanced.{HasAdvanced}
 use Rattle.pdl_session.specs.declared.news.News.{News}
 use Rattle.pdl_session.specs.Dumping.{DumpMakesAgain, MakesAgain, PrintsDump, dump_text}
-use Rattle.pdl_session.specs.Performed.{Performs, IsLeft}
+use Rattle.pdl_session.specs.Performed.{Performs}
 use Rattle.pdl_session.proofs.Facts.{first_fault}
+
+-- a dump that is refused unread takes no step
+pub dump_within : (old new : Scope) (before after most : ℕ) → after ≤ before + most → (is_refused_unread (machine old) ≡ true → (new ≡ old) × (after ≡ before)) → after ≤ before + (if is_refused_unread (machine old) then 0 else most)
+dump_within old new before after most counted unmoved = by_test (is_refused_unread (machine old)) refl
+  where
+    by_test : (unread : Bool) → is_refused_unread (machine old) ≡ unread → after ≤ before + (if unread then 0 else most)
+    by_test true is = (let same : after ≡ before = (unmoved is).1 in omega (arith, same))
+    by_test false is = counted
 
 -- a text that isn't refused is that of the lines
 text_is : (lines : List Line) (text : List ℕ) → text_within lines ≡ Ok text → text ≡ script_of lines

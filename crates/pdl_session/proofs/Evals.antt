@@ -27,7 +27,6 @@ use Rattle.pdl_scope.specs.Answers.{IsFault}
 use Rattle.pdl_session.specs.declared.given.Given.{Given}
 use Rattle.pdl_session.specs.declared.given.Given.TheVariants.{Array, Text, OfType as OfType'}
 use Rattle.pdl_session.specs.Arguments.{argument, arguments, IsGivenLive, AreGivenLive}
-use Rattle.pdl_session.specs.Came.{args_left, came, left_then, parts_left}
 use Rattle.pdl_session.proofs.Facts.{first_fault}
 
 abbrev pub with_given : Arrays → List Argument → Taken
@@ -122,26 +121,6 @@ right_fault names mid a b op t l r v e is first same h =
     faults_as names a t (binary op l r) e is
     (subst (λ x. IsFault x e) (sym (ap (λ x. and_then x (after_left names op r)) first))
     (first_fault (value_of names b r) (after_right op v) e (subst (λ (n : Names). IsFault (value_of n b r) e) same h)))
-
--- nor does the rest leave anything
-left_behind : (names : Names) (w : Arrays) (a : Arg) (front : Args) (f : Fault) → taken names w front ≡ Err f → args_left names w (argument_of a front) ≡ args_left names w front
-left_behind names w (Value e) front f before = ap (λ (t : Taken). left_then t (args_left names w front) (λ b. came (value_of names b (tree_of e)) (parts_left names b (tree_of e)))) before
-left_behind names w (Str t) front f before = refl
-left_behind names w (OfType ty) front f before = refl
-
-left_stays : (names : Names) (w : Arrays) (rest : List Arg) (front : Args) (f : Fault) → taken names w front ≡ Err f → args_left names w (args_of rest front) ≡ args_left names w front
-left_stays names w [] front f before = refl
-left_stays names w (a ∷ rest) front f before = left_stays names w rest (argument_of a front) f (err_behind names w a front f before) ∙ left_behind names w a front f before
-
--- what one argument leaves that is refused is what all leave
-pub left_at : (names : Names) (w : Arrays) (args : List Arg) (front : Args) (i : ℕ) (a : Arg) (f : Fault) → i < length args → a ≡ slice_index_or args i a
-    → taken names w (argument_of a (args_of (take i args) front)) ≡ Err f → args_left names w (args_of args front) ≡ args_left names w (argument_of a (args_of (take i args) front))
-left_at names w args front i a f lt at h =
-    let more : args_of (take (i + 1) args) front ≡ argument_of a (args_of (take i args) front) = args_more args front i a lt at in
-    let so_far : taken names w (args_of (take (i + 1) args) front) ≡ Err f = ap (taken names w) more ∙ h in
-    ap (args_left names w) (ap (λ xs. args_of xs front) (sym (take-append-drop (i + 1) args)) ∙ args_of_append (take (i + 1) args) (drop (i + 1) args) front)
-    ∙ left_stays names w (drop (i + 1) args) (args_of (take (i + 1) args) front) f so_far
-    ∙ ap (args_left names w) more
 
 -- literals of one argument
 front_arrays : (rest : List Arg) (front : Args) → AreArgArrays (args_of rest front) → AreArgArrays front

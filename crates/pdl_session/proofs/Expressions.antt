@@ -1,13 +1,12 @@
 -- What expressions move, from what their parts move.
-use Rattle.std.proofs.Common.{◌≡◌, ℕ, ℤ, zero, suc, ◌+◌, ◌≤◌, ◌<◌, List, [], ◌∷◌, ◌++◌, drop, take, get_or, length, map, Option, Some, None, Result, Ok, Err, refl, sym, ap, subst, ◌∙◌, arith}
+use Rattle.std.proofs.Common.{◌≡◌, ℕ, ℤ, ◌+◌, ◌≤◌, ◌<◌, List, [], ◌∷◌, ◌++◌, drop, take, length, map, Option, Some, None, Result, Ok, Err, refl, sym, ap, subst, ◌∙◌, arith}
 use Rattle.std.specs.Option.{option_map_or}
 use Rattle.std.specs.Prelude.{Bool, true, false, if◌then◌else◌, Box, nat_eq, IfSome, slice_index_or}
 use Rattle.std.specs.Result.{IsErrAnd}
 use Rattle.pdl_buf.specs.declared.made.Made.{Made}
 use Rattle.pdl_numbers.specs.Typed.{count_moved}
-use Rattle.pdl_shape.specs.Shape.{size_of}
 use Rattle.pdl_world.specs.Sound.{IsLive}
-use Rattle.pdl_world.specs.World.{World, dims_in}
+use Rattle.pdl_world.specs.World.{World}
 use Rattle.pdl_engine.specs.Reading.{read_steps}
 use Rattle.pdl_engine.specs.State.{State as Engine, is_fresh, ready_steps}
 use Rattle.std.specs.Global.{Global}
@@ -26,7 +25,7 @@ use Rattle.pdl_machine.specs.declared.fault.Fault.{Fault}
 use Rattle.pdl_machine.specs.Calls.{outcome}
 use Rattle.pdl_machine.specs.Fills.{after_type, dims_for, numbers_in, type_given}
 use Rattle.pdl_ops.specs.Fills.{filled}
-use Rattle.pdl_machine.specs.Outcome.{Outcome as Placed, Seen, array, made, string, type_word, view_placed, viewed}
+use Rattle.pdl_machine.specs.Outcome.{Seen, array, made, string, type_word, view_placed, viewed}
 use Rattle.pdl_machine.specs.Reductions.{made_or_fault, of_one, of_two}
 use Rattle.pdl_machine.specs.declared.builtin.Builtin.{Builtin}
 use Rattle.pdl_machine.specs.declared.builtin.Builtin.TheVariants.{Filled, Told, Dim, Slice, Nice, Arranged, Index, Where, Range, Reduced, Whole, Paired}
@@ -35,18 +34,18 @@ use Rattle.pdl_reduce.specs.Reductions.{reduced, whole_reduced}
 use Rattle.pdl_reduce.specs.Refusals.{ReduceRefusal}
 use Rattle.pdl_world.specs.declared.Trans.{Trans}
 use Rattle.pdl_elem.specs.declared.BinaryOp.{BinaryOp}
-use Rattle.pdl_machine.specs.Outcome.{Given as Argument, Valued}
-use Rattle.pdl_machine.specs.Value.{Taken, taken, value_of}
+use Rattle.pdl_machine.specs.Outcome.{Valued}
+use Rattle.pdl_machine.specs.Value.{number_made, value_of}
 use Rattle.pdl_session.specs.Arguments.{AreGivenLive, arguments}
-use Rattle.pdl_session.specs.Came.{args_left, came, left_then, parts_left}
-use Rattle.pdl_scope.specs.Answers.{Evaluates, IsFault}
-use Rattle.pdl_scope.specs.Costs.{CostsNoMore, IsInOrder, NewRootsAreReady, NewRootsMoveTheirSize, NewViewsAddTheirSize, NewViewsCostTheirSize, make_steps, total_size}
+use Rattle.pdl_session.specs.Came.{came, evaluated, left_then, parts_left}
+use Rattle.pdl_scope.specs.Answers.{Evaluates}
+use Rattle.pdl_scope.specs.Costs.{CostsNoMore, IsInOrder, MovesUpTo, NewRootsAreReady, NewRootsMoveTheirSize, NewViewsAddTheirSize, NewViewsCostTheirSize, make_steps, total_size}
 use Rattle.pdl_scope.specs.Scope.{Scope, engine_of, machine}
 use Rattle.pdl_scope.specs.declared.fault.ScopeFault.{ScopeFault}
-use Rattle.pdl_scope.specs.declared.fault.ScopeFault.TheVariants.{Script, NoMemory}
 use Rattle.pdl_session.specs.Costs.{EvaluatesWithin, PaysWithin, all_steps, argued_steps, given_steps, named_steps, read_all, read_by, reads_first, ready_all}
 use Rattle.std.proofs.lemmas.List.{take-append-drop}
-use Rattle.pdl_session.proofs.Evals.{args_more, args_of_append, left_at}
+use Rattle.pdl_session.proofs.Evals.{args_more, args_of_append, list_is}
+use Rattle.pdl_session.proofs.Gained.{size_in, starts_within}
 use Rattle.pdl_session.proofs.Moved.{less_all, steps_both}
 use Rattle.pdl_session.specs.declared.given.Given.{Given}
 use Rattle.pdl_session.specs.declared.given.Given.TheVariants.{Array, Text, OfType as OfType'}
@@ -106,89 +105,71 @@ argued_first s (a ∷ rest) front =
     omega (arith, one, all)
 
 -- what a new root takes
-pub root_within : NewRootsAreReady → NewRootsMoveTheirSize → (old new : Scope) (left : Arrays) (m : Made) (most before after : ℕ) (r : Result ℕ ScopeFault) → IsInOrder new → Evaluates (new_root old.arrays m) new r
-    → after ≤ before + (most + count_moved m.elems) → EvaluatesWithin most old new left before after r
-root_within ready moves old new left m most before after (Ok v) order answer counted =
+pub root_within : NewRootsAreReady → NewRootsMoveTheirSize → (old new : Scope) (late : Arrays) (m : Made) (most before after : ℕ) (r : Result ℕ ScopeFault) → IsInOrder new → Evaluates (new_root old.arrays m) new r
+    → after ≤ before + (most + count_moved m.elems) → count_moved m.elems + total_size old.arrays.world ≤ total_size late.world → EvaluatesWithin most old new late before after r
+root_within ready moves old new late m most before after (Ok v) order answer counted enough =
     let fresh : ready_steps (engine_of new) v ≡ 0 = ready old new m v order answer.0 in
     let all = moves old new m v answer.0 in
     omega (arith, counted, fresh, all)
-root_within ready moves old new left m most before after (Err (Script f)) order answer counted = absurd (cc)
-root_within ready moves old new left m most before after (Err NoMemory) order answer counted = tt
+root_within ready moves old new late m most before after (Err e) order answer counted enough = omega (arith, counted, enough)
 
 -- that of an operator of one
-pub unary_within : NewRootsAreReady → NewRootsMoveTheirSize → (old mid new : Scope) (left : Arrays) (m : Made) (most before now after v : ℕ) (r : Result ℕ ScopeFault) → IsInOrder new → EvaluatesWithin most old mid mid.arrays before now (Ok v)
-    → Evaluates (new_root mid.arrays m) new r → after ≤ now + (read_steps (engine_of mid) v + count_moved m.elems) → EvaluatesWithin most old new left before after r
-unary_within ready moves old mid new left m most before now after v (Ok w) order operand answer counted =
+pub unary_within : NewRootsAreReady → NewRootsMoveTheirSize → (old mid new : Scope) (late : Arrays) (m : Made) (most before now after v : ℕ) (r : Result ℕ ScopeFault) → IsInOrder new → EvaluatesWithin most old mid late before now (Ok v)
+    → Evaluates (new_root mid.arrays m) new r → after ≤ now + (read_steps (engine_of mid) v + count_moved m.elems) → count_moved m.elems + total_size mid.arrays.world ≤ total_size late.world → EvaluatesWithin most old new late before after r
+unary_within ready moves old mid new late m most before now after v (Ok w) order operand answer counted enough =
     let fresh : ready_steps (engine_of new) w ≡ 0 = ready mid new m w order answer.0 in
     let all = moves mid new m w answer.0 in
     let less = read_le_ready (engine_of mid) v in
     omega (arith, operand, counted, fresh, all, less)
-unary_within ready moves old mid new left m most before now after v (Err (Script f)) order operand answer counted = absurd (cc)
-unary_within ready moves old mid new left m most before now after v (Err NoMemory) order operand answer counted = tt
+unary_within ready moves old mid new late m most before now after v (Err e) order operand answer counted enough =
+    let less = read_le_ready (engine_of mid) v in
+    omega (arith, operand, counted, less, enough)
 
 -- that of an operator of two
-pub binary_within : NewRootsAreReady → NewRootsMoveTheirSize → (old mid late new : Scope) (wanted : Result Made Fault) (first second most before now later after v u : ℕ) (r : Result ℕ ScopeFault) → IsInOrder new
-    → IsLive mid.arrays.world v → CostsNoMore (engine_of mid) (engine_of late) → EvaluatesWithin first old mid mid.arrays before now (Ok v) → second ≤ most → EvaluatesWithin second mid late late.arrays now later (Ok u)
-    → Evaluates (and_then wanted (new_root late.arrays)) new r → after ≤ later + (read_steps (engine_of late) v + read_steps (engine_of late) u + make_steps wanted) → EvaluatesWithin (first + most) old new late.arrays before after r
-binary_within ready moves old mid late new (Ok m) first second most before now later after v u (Ok w) order live costs left less right answer counted =
+pub binary_within : NewRootsAreReady → NewRootsMoveTheirSize → (old mid late new : Scope) (last : Arrays) (wanted : Result Made Fault) (first second most before now later after v u : ℕ) (r : Result ℕ ScopeFault) → IsInOrder new
+    → IsLive mid.arrays.world v → CostsNoMore (engine_of mid) (engine_of late) → EvaluatesWithin first old mid last before now (Ok v) → second ≤ most → EvaluatesWithin second mid late last now later (Ok u)
+    → Evaluates (and_then wanted (new_root late.arrays)) new r → after ≤ later + (read_steps (engine_of late) v + read_steps (engine_of late) u + make_steps wanted) → make_steps wanted + total_size late.arrays.world ≤ total_size last.world
+    → EvaluatesWithin (first + most) old new last before after r
+binary_within ready moves old mid late new last (Ok m) first second most before now later after v u (Ok w) order live costs left less right answer counted enough =
     let fresh : ready_steps (engine_of new) w ≡ 0 = ready late new m w order answer.0 in
     let all = moves late new m w answer.0 in
     let a = read_le_ready (engine_of late) v in
     let b = read_le_ready (engine_of late) u in
     let c = costs.readies v live in
     omega (arith, left, less, right, counted, fresh, all, a, b, c)
-binary_within ready moves old mid late new (Err e) first second most before now later after v u (Ok w) order live costs left less right answer counted = absurd (cc (answer.0))
-binary_within ready moves old mid late new (Ok m) first second most before now later after v u (Err (Script f)) order live costs left less right answer counted = absurd (cc)
-binary_within ready moves old mid late new (Err e) first second most before now later after v u (Err (Script f)) order live costs left less right answer counted =
+binary_within ready moves old mid late new last (Err e) first second most before now later after v u (Ok w) order live costs left less right answer counted enough = absurd (cc (answer.0))
+binary_within ready moves old mid late new last wanted first second most before now later after v u (Err e) order live costs left less right answer counted enough =
     let a = read_le_ready (engine_of late) v in
     let b = read_le_ready (engine_of late) u in
     let c = costs.readies v live in
-    omega (arith, left, less, right, counted, a, b, c)
-binary_within ready moves old mid late new wanted first second most before now later after v u (Err NoMemory) order live costs left less right answer counted = tt
+    omega (arith, left, less, right, counted, a, b, c, enough)
+
+-- what moves for a new array counts where it comes
+pub made_enough : (x : Result Made Fault) (a : Arrays) → make_steps x + size_in a ≤ size_in (came (and_then x (new_root a)) a)
+made_enough (Ok m) a = omega arith
+made_enough (Err e) a = omega arith
 
 -- a fault is handed on
-pub pays_fault : {T U : Type 0} (owed : T → ℕ) (due : U → ℕ) (most : ℕ) (old new : Scope) (left : Arrays) (before after : ℕ) (f : ScopeFault) (r : Result U ScopeFault) → IsErrAnd r (λ e. e ≡ f) → PaysWithin owed most old new left before after (Err f)
-    → PaysWithin due most old new left before after r
-pays_fault owed due most old new left before after f (Ok x) is h = absurd is
-pays_fault owed due most old new left before after (Script e) (Err (Script x)) is h = h
-pays_fault owed due most old new left before after NoMemory (Err (Script x)) is h = absurd (cc)
-pays_fault owed due most old new left before after f (Err NoMemory) is h = tt
-
--- what is left where a first step is refused is what that step left
-pub left_first : {T U : Type 0} (owed : T → ℕ) (most : ℕ) (old new : Scope) (first : Result (Arrays × U) Fault) (left : Arrays) (next : Arrays → Arrays) (before after : ℕ) (f : ScopeFault) → IsFault first f
-    → PaysWithin owed most old new left before after (Err f) → PaysWithin owed most old new (left_then first left next) before after (Err f)
-left_first {T} {U} owed most old new first left next before after (Script e) is h =
-    subst (λ (x : Result (Arrays × U) Fault). PaysWithin owed most old new (left_then x left next) before after (Err (Script e))) (sym is) h
-left_first owed most old new first left next before after NoMemory is h = tt
-
--- and where it came, what it gave
-pub came_first : {T : Type 0} (owed : T → ℕ) (most : ℕ) (old new : Scope) (x : Valued) (left : Arrays) (before after v : ℕ) (f : Fault) → x ≡ Ok (new.arrays, v) → after + total_size old.arrays.world ≤ before + total_size new.arrays.world + most
-    → PaysWithin owed most old new (came x left) before after (Err (Script f))
-came_first owed most old new x left before after v f is h = subst (λ (y : Valued). after + total_size old.arrays.world ≤ before + total_size (came y left).world + most) (sym is) h
+pub pays_fault : {T : Type 0} (owed : T → ℕ) (most : ℕ) (old new : Scope) (late : Arrays) (before after : ℕ) (f : ScopeFault) (r : Result T ScopeFault) → IsErrAnd r (λ e. e ≡ f) → MovesUpTo most old late before after → PaysWithin owed most old new late before after r
+pays_fault owed most old new late before after f (Ok x) is h = absurd is
+pays_fault owed most old new late before after f (Err e) is h = h
 
 -- what a first part owes pays for the second
-pub paid_on : {T : Type 0} (owed : T → ℕ) (due most : ℕ) (old mid new : Scope) (left : Arrays) (before now after : ℕ) (r : Result T ScopeFault)
-    → now + due + total_size old.arrays.world ≤ before + total_size mid.arrays.world + most → PaysWithin owed due mid new left now after r → PaysWithin owed most old new left before after r
-paid_on owed due most old mid new left before now after (Ok x) first second = omega (arith, first, second)
-paid_on owed due most old mid new left before now after (Err (Script e)) first second = omega (arith, first, second)
-paid_on owed due most old mid new left before now after (Err NoMemory) first second = tt
-
--- more may be paid
-pub paid_more : {T : Type 0} (owed : T → ℕ) (few most : ℕ) (old new : Scope) (left : Arrays) (before after : ℕ) (r : Result T ScopeFault) → few ≤ most → PaysWithin owed few old new left before after r → PaysWithin owed most old new left before after r
-paid_more owed few most old new left before after (Ok x) less h = omega (arith, less, h)
-paid_more owed few most old new left before after (Err (Script e)) less h = omega (arith, less, h)
-paid_more owed few most old new left before after (Err NoMemory) less h = tt
+pub paid_on : {T : Type 0} (owed : T → ℕ) (due most : ℕ) (old mid new : Scope) (part late : Arrays) (before now after : ℕ) (r : Result T ScopeFault)
+    → now + due + total_size old.arrays.world ≤ before + total_size mid.arrays.world + most → total_size part.world ≤ total_size late.world → PaysWithin owed due mid new part now after r → PaysWithin owed most old new late before after r
+paid_on owed due most old mid new part late before now after (Ok x) first less second = omega (arith, first, second)
+paid_on owed due most old mid new part late before now after (Err e) first less second = omega (arith, first, second, less)
 
 -- what was only read
-pub after_reading : (old mid new : Scope) (most before now after : ℕ) (r : Result ℕ ScopeFault) → now ≤ before + most → mid.arrays ≡ old.arrays → EvaluatesWithin 0 mid new mid.arrays now after r → EvaluatesWithin most old new old.arrays before after r
-after_reading old mid new most before now after (Ok v) read same h = (let all : total_size mid.arrays.world ≡ total_size old.arrays.world = ap (λ (a : Arrays). total_size a.world) same in omega (arith, read, h, all))
-after_reading old mid new most before now after (Err (Script e)) read same h = omega (arith, read, h)
-after_reading old mid new most before now after (Err NoMemory) read same h = tt
+pub after_reading : (old mid new : Scope) (part late : Arrays) (most before now after : ℕ) (r : Result ℕ ScopeFault) → now ≤ before + most → mid.arrays ≡ old.arrays → total_size part.world ≤ total_size late.world → EvaluatesWithin 0 mid new part now after r
+    → EvaluatesWithin most old new late before after r
+after_reading old mid new part late most before now after (Ok v) read same less h = (let all : total_size mid.arrays.world ≡ total_size old.arrays.world = ap (λ (a : Arrays). total_size a.world) same in omega (arith, read, h, all))
+after_reading old mid new part late most before now after (Err e) read same less h = (let all : total_size mid.arrays.world ≡ total_size old.arrays.world = ap (λ (a : Arrays). total_size a.world) same in omega (arith, read, h, all, less))
 
-pub reading_refused : {T : Type 0} (owed : T → ℕ) (old new : Scope) (most before after : ℕ) (r : Result T ScopeFault) (f : ScopeFault) → IsErrAnd r (λ e. e ≡ f) → after ≤ before + most → PaysWithin owed most old new old.arrays before after r
-reading_refused owed old new most before after (Ok x) f is read = absurd is
-reading_refused owed old new most before after (Err (Script e)) f is read = omega (arith, read)
-reading_refused owed old new most before after (Err NoMemory) f is read = tt
+pub reading_refused : {T : Type 0} (owed : T → ℕ) (old new : Scope) (late : Arrays) (most before after : ℕ) (r : Result T ScopeFault) (f : ScopeFault) → IsErrAnd r (λ e. e ≡ f) → after ≤ before + most → total_size old.arrays.world ≤ total_size late.world
+    → PaysWithin owed most old new late before after r
+reading_refused owed old new late most before after (Ok x) f is read less = absurd is
+reading_refused owed old new late most before after (Err e) f is read less = omega (arith, read, less)
 
 -- what a built-in call reads takes no more than to make all ready
 rest_le : (s : Scope) (given : List Given) → read_all s (drop 1 given) ≤ ready_all s given
@@ -203,19 +184,18 @@ by_le s b given = by_first (reads_first b)
     by_first false = rest_le s given
 
 -- what a view of the first argument takes
-pub view_within : NewViewsCostTheirSize → NewViewsAddTheirSize → (old new : Scope) (given : List Given) (t : Trans) (before after : ℕ) (r : Result ℕ ScopeFault) → IsInOrder new → CostsNoMore (engine_of old) (engine_of new)
-    → AreGivenLive old.arrays.world given → Evaluates (view_placed old.arrays (arguments given) t) new r → after ≤ before + read_all old (drop 1 given) → EvaluatesWithin (ready_all old given) old new old.arrays before after r
-view_within views adds old new (Array v ∷ given) t before after (Ok w) order costs live answer counted =
+pub view_within : NewViewsCostTheirSize → NewViewsAddTheirSize → (old new : Scope) (late : Arrays) (given : List Given) (t : Trans) (before after : ℕ) (r : Result ℕ ScopeFault) → IsInOrder new → CostsNoMore (engine_of old) (engine_of new)
+    → AreGivenLive old.arrays.world given → Evaluates (view_placed old.arrays (arguments given) t) new r → after ≤ before + read_all old (drop 1 given) → total_size old.arrays.world ≤ total_size late.world → EvaluatesWithin (ready_all old given) old new late before after r
+view_within views adds old new late (Array v ∷ given) t before after (Ok w) order costs live answer counted less =
     let a = views old new v w t order live.0 answer.0 in
     let b = adds old new v w t answer.0 in
     let c = costs.readies v live.0 in
     let d = read_all_le old given in
     omega (arith, counted, a, b, c, d)
-view_within views adds old new [] t before after (Ok w) order costs live answer counted = absurd (cc (answer.0))
-view_within views adds old new (Text x ∷ given) t before after (Ok w) order costs live answer counted = absurd (cc (answer.0))
-view_within views adds old new (OfType' ty ∷ given) t before after (Ok w) order costs live answer counted = absurd (cc (answer.0))
-view_within views adds old new given t before after (Err (Script e)) order costs live answer counted = (let b = rest_le old given in omega (arith, counted, b))
-view_within views adds old new given t before after (Err NoMemory) order costs live answer counted = tt
+view_within views adds old new late [] t before after (Ok w) order costs live answer counted less = absurd (cc (answer.0))
+view_within views adds old new late (Text x ∷ given) t before after (Ok w) order costs live answer counted less = absurd (cc (answer.0))
+view_within views adds old new late (OfType' ty ∷ given) t before after (Ok w) order costs live answer counted less = absurd (cc (answer.0))
+view_within views adds old new late given t before after (Err e) order costs live answer counted less = (let b = rest_le old given in omega (arith, counted, b, less))
 
 -- a call that gives a view doesn't read its first argument
 made_after : {B : Type 0} (x : Result B Fault) (f : B → Made) (t : Trans) → and_then x (λ b. Ok (made (f b))) ≡ Ok (viewed t) → ⊥
@@ -266,49 +246,29 @@ views_read_others (Whole kind) given t h = absurd (one_made (whole_reduced kind)
 views_read_others (Paired kind) given t h = absurd (two_made (paired kind) given t h)
 
 -- a name, a number and a list
-pub named_within : (e : Expr) (x : List ℕ) (s : Scope) (v n : ℕ) → e ≡ NamedExpr x → number_of s.names x ≡ Some v → EvaluatesWithin (named_steps s (tree_of e)) s s s.arrays n n (Ok v)
-named_within e x s v n is bound =
-    let T : Expr → Type 0 = λ y. EvaluatesWithin (named_steps s (tree_of y)) s s s.arrays n n (Ok v) in
+pub named_within : (e : Expr) (x : List ℕ) (s : Scope) (late : Arrays) (v n : ℕ) → e ≡ NamedExpr x → number_of s.names x ≡ Some v → EvaluatesWithin (named_steps s (tree_of e)) s s late n n (Ok v)
+named_within e x s late v n is bound =
+    let T : Expr → Type 0 = λ y. EvaluatesWithin (named_steps s (tree_of y)) s s late n n (Ok v) in
     let O : Option ℕ → Type 0 = λ o. n + ready_steps (engine_of s) v + total_size s.arrays.world ≤ n + total_size s.arrays.world + option_map_or (ready_steps (engine_of s)) o 0 in
     subst T (sym is) (subst O (sym bound) (omega arith))
 
-pub unnamed_within : (most : ℕ) (s : Scope) (n : ℕ) (f : Fault) → EvaluatesWithin most s s s.arrays n n (Err (Script f))
-unnamed_within most s n f = omega arith
+-- nothing came and nothing was moved
+pub unmoved_within : (names : Names) (s : Scope) (e : Tree) (most n : ℕ) → MovesUpTo most s (evaluated names s.arrays e) n n
+unmoved_within names s e most n = omega (arith, starts_within names s.arrays e)
 
-pub unknown_within : (e : Expr) (x : List ℕ) (s : Scope) (n : ℕ) (f : Fault) → e ≡ NamedExpr x → EvaluatesWithin (named_steps s (tree_of e)) s s (parts_left s.names s.arrays (tree_of e)) n n (Err (Script f))
-unknown_within e x s n f is =
-    subst (λ y. EvaluatesWithin (named_steps s (tree_of y)) s s (parts_left s.names s.arrays (tree_of y)) n n (Err (Script f))) (sym is) (unnamed_within (named_steps s (named x)) s n f)
+pub number_within : (e : Expr) (k : ℤ) (old new : Scope) (before after : ℕ) (r : Result ℕ ScopeFault) → e ≡ Number k → EvaluatesWithin 0 old new (came (new_root old.arrays (number_made k)) old.arrays) before after r
+    → EvaluatesWithin (named_steps old (tree_of e)) old new (evaluated old.names old.arrays (tree_of e)) before after r
+number_within e k old new before after r is h = subst (λ y. EvaluatesWithin (named_steps old (tree_of y)) old new (evaluated old.names old.arrays (tree_of y)) before after r) (sym is) h
 
-pub number_within : (e : Expr) (k : ℤ) (old new : Scope) (before after : ℕ) (r : Result ℕ ScopeFault) → e ≡ Number k → EvaluatesWithin 0 old new old.arrays before after r
-    → EvaluatesWithin (named_steps old (tree_of e)) old new (parts_left old.names old.arrays (tree_of e)) before after r
-number_within e k old new before after r is h = subst (λ y. EvaluatesWithin (named_steps old (tree_of y)) old new (parts_left old.names old.arrays (tree_of y)) before after r) (sym is) h
-
-pub list_within : NewRootsAreReady → NewRootsMoveTheirSize → (e : Expr) (m : Made) (b : Box Made Global) (old new : Scope) (left : Arrays) (before after : ℕ) (r : Result ℕ ScopeFault) → e ≡ Listed b → IsInOrder new → Evaluates (new_root old.arrays m) new r
-    → after ≤ before + count_moved m.elems → EvaluatesWithin (named_steps old (tree_of e)) old new left before after r
-list_within ready moves e m b old new left before after r is order answer counted =
-    subst (λ y. EvaluatesWithin (named_steps old (tree_of y)) old new left before after r) (sym is) (root_within ready moves old new left m 0 before after r order answer (omega (arith, counted)))
-
--- a fault owes nothing, whatever the answer was to be
-pub err_again : {T U : Type 0} (owed : T → ℕ) (due : U → ℕ) (most : ℕ) (old new : Scope) (left : Arrays) (before after : ℕ) (f : ScopeFault) → PaysWithin owed most old new left before after (Err f) → PaysWithin due most old new left before after (Err f)
-err_again owed due most old new left before after (Script e) h = h
-err_again owed due most old new left before after NoMemory h = tt
-
--- the right operand is refused
-right_parts : (names mid : Names) (a b : Arrays) (op : BinaryOp) (x y : Tree) (v : ℕ) (e : Fault) → value_of names a x ≡ Ok (b, v) → mid ≡ names → value_of mid b y ≡ Err e → parts_left names a (binary op x y) ≡ parts_left mid b y
-right_parts names mid a b op x y v e first same refused =
-    ap (λ (z : Valued). left_then z (parts_left names a x) (λ d. came (value_of names d y) (parts_left names d y))) first
-    ∙ ap (λ (n : Names). came (value_of n b y) (parts_left n b y)) (sym same)
-    ∙ ap (λ (z : Valued). came z (parts_left mid b y)) refused
-
-pub right_refused : (old mid late : Scope) (op : BinaryOp) (x y : Tree) (second before now later v : ℕ) (f : ScopeFault) (r : Result ℕ ScopeFault) → IsErrAnd r (λ e. e ≡ f) → value_of old.names old.arrays x ≡ Ok (mid.arrays, v) → mid.names ≡ old.names
-    → IsFault (value_of mid.names mid.arrays y) f → EvaluatesWithin (named_steps old x) old mid mid.arrays before now (Ok v) → second ≤ named_steps old y
-    → PaysWithin (ready_steps (engine_of late)) second mid late (parts_left mid.names mid.arrays y) now later (Err f) → EvaluatesWithin (named_steps old x + named_steps old y) old late (parts_left old.names old.arrays (binary op x y)) before later r
-right_refused old mid late op x y second before now later v f (Ok z) is first same refused left less right = absurd is
-right_refused old mid late op x y second before now later v (Script e) (Err (Script z)) is first same refused left less right =
-    let P : Arrays → Type 0 = λ a. later + total_size old.arrays.world ≤ before + total_size a.world + (named_steps old x + named_steps old y) in
-    subst P (sym (right_parts old.names mid.names old.arrays mid.arrays op x y v e first same refused)) (omega (arith, left, less, right))
-right_refused old mid late op x y second before now later v NoMemory (Err (Script z)) is first same refused left less right = absurd (cc)
-right_refused old mid late op x y second before now later v f (Err NoMemory) is first same refused left less right = tt
+pub list_within : NewRootsAreReady → NewRootsMoveTheirSize → (e : Expr) (m : Made) (b : Box Made Global) (old new : Scope) (before after : ℕ) (r : Result ℕ ScopeFault) → e ≡ Listed b → m ≡ b.value → IsInOrder new → Evaluates (new_root old.arrays m) new r
+    → after ≤ before + count_moved m.elems → EvaluatesWithin (named_steps old (tree_of e)) old new (evaluated old.names old.arrays (tree_of e)) before after r
+list_within ready moves e m b old new before after r is at order answer counted =
+    let a = old.arrays in
+    let left = parts_left old.names a (tree_of e) in
+    let enough : size_in (evaluated old.names a (tree_of e)) ≡ count_moved m.elems + size_in a = ap (λ (v : Valued). size_in (came v left)) (list_is old.names a e m b is at) in
+    let late = evaluated old.names a (tree_of e) in
+    let none : named_steps old (tree_of e) ≡ 0 = ap (λ (y : Expr). named_steps old (tree_of y)) is in
+    subst (λ n. EvaluatesWithin n old new late before after r) (sym none) (root_within ready moves old new late m 0 before after r order answer (omega (arith, counted)) (omega (arith, enough)))
 
 -- both operands came
 pub both_parts : (names mid : Names) (a b d : Arrays) (op : BinaryOp) (x y : Tree) (v u : ℕ) → value_of names a x ≡ Ok (b, v) → mid ≡ names → value_of mid b y ≡ Ok (d, u) → parts_left names a (binary op x y) ≡ d
@@ -350,37 +310,11 @@ argued_part old args i =
     omega (arith, all, same)
 
 -- the next argument is refused
-pub taken_refused : {T : Type 0} (due : T → ℕ) (old mid late : Scope) (left : Arrays) (args : List Arg) (given : List Given) (a : Arg) (i held before now after : ℕ) (f : ScopeFault) (r : Result T ScopeFault) → i < length args → a ≡ slice_index_or args i a
+pub taken_refused : (old mid : Scope) (late : Arrays) (args : List Arg) (given : List Given) (a : Arg) (i held before now after : ℕ) → i < length args → a ≡ slice_index_or args i a
     → argued_steps mid (argument_of a none) ≤ argued_steps old (argument_of a none) → now + ready_all mid given + total_size old.arrays.world ≤ before + total_size mid.arrays.world + (argued_steps old (args_of (take i args) none) + held)
-    → IsErrAnd r (λ e. e ≡ f) → PaysWithin (given_steps (ready_steps (engine_of late))) (argued_steps mid (argument_of a none)) mid late left now after (Err f) → PaysWithin due (argued_steps old (args_of args none) + held) old late left before after r
-taken_refused due old mid late left args given a i held before now after f (Ok x) lt at fewer so_far is refused = absurd is
-taken_refused due old mid late left args given a i held before now after (Script e) (Err (Script x)) lt at fewer so_far is refused =
+    → MovesUpTo (argued_steps mid (argument_of a none)) mid late now after → MovesUpTo (argued_steps old (args_of args none) + held) old late before after
+taken_refused old mid late args given a i held before now after lt at fewer so_far refused =
     let more : argued_steps old (args_of (take (i + 1) args) none) ≡ argued_steps old (argument_of a (args_of (take i args) none)) = ap (argued_steps old) (args_more args none i a lt at) in
     let each = argued_one old a (args_of (take i args) none) in
     let part = argued_part old args (i + 1) in
     omega (arith, more, each, part, fewer, so_far, refused)
-taken_refused due old mid late left args given a i held before now after NoMemory (Err (Script x)) lt at fewer so_far is refused = absurd (cc)
-taken_refused due old mid late left args given a i held before now after f (Err NoMemory) lt at fewer so_far is refused = tt
-
--- what all arguments leave where one of them is refused
-pub args_refused : {T : Type 0} (due : T → ℕ) (most : ℕ) (old new : Scope) (names : Names) (a : Arrays) (args : List Arg) (front : Args) (i : ℕ) (x : Arg) (before after : ℕ) (f : ScopeFault) (r : Result T ScopeFault) → i < length args → x ≡ slice_index_or args i x
-    → IsErrAnd r (λ e. e ≡ f) → IsFault (taken names a (argument_of x (args_of (take i args) front))) f
-    → PaysWithin due most old new (args_left names a (argument_of x (args_of (take i args) front))) before after r → PaysWithin due most old new (args_left names a (args_of args front)) before after r
-args_refused due most old new names a args front i x before after f (Ok y) lt at is fault h = absurd is
-args_refused due most old new names a args front i x before after (Script e) (Err (Script y)) lt at is fault h =
-    subst (λ (b : Arrays). after + total_size old.arrays.world ≤ before + total_size b.world + most) (sym (left_at names a args front i x e lt at fault)) h
-args_refused due most old new names a args front i x before after NoMemory (Err (Script y)) lt at is fault h = absurd (cc)
-args_refused due most old new names a args front i x before after f (Err NoMemory) lt at is fault h = tt
-
--- an argument whose value is refused
-pub argument_refused : {T : Type 0} (due : T → ℕ) (most : ℕ) (old new : Scope) (names : Names) (a b : Arrays) (front : Args) (given : List Argument) (e : Tree) (before after : ℕ) (f : ScopeFault) → taken names a front ≡ Ok (b, given)
-    → IsFault (value_of names b e) f → PaysWithin due most old new (parts_left names b e) before after (Err f) → PaysWithin due most old new (args_left names a (value front e)) before after (Err f)
-argument_refused due most old new names a b front given e before after f is fault h =
-    subst (λ (t : Taken). PaysWithin due most old new (left_then t (args_left names a front) (λ d. came (value_of names d e) (parts_left names d e))) before after (Err f)) (sym is)
-    (left_first due most old new (value_of names b e) (parts_left names b e) (λ d. d) before after f fault h)
-
--- out of memory
-pub pays_nothing : {T : Type 0} (owed : T → ℕ) (most : ℕ) (old new : Scope) (left : Arrays) (before after : ℕ) (r : Result T ScopeFault) → IsErrAnd r (λ e. e ≡ NoMemory) → PaysWithin owed most old new left before after r
-pays_nothing owed most old new left before after (Ok x) is = absurd is
-pays_nothing owed most old new left before after (Err (Script e)) is = absurd (cc)
-pays_nothing owed most old new left before after (Err NoMemory) is = tt

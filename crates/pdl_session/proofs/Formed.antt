@@ -35,15 +35,15 @@ use Rattle.pdl_machine.specs.Step.{Stepped, begun, bound, effect, flowing}
 use Rattle.pdl_machine.specs.Then.{and_then, or_fault}
 use Rattle.pdl_machine.specs.Value.{value_of}
 use Rattle.pdl_scope.specs.declared.fault.ScopeFault.{ScopeFault}
-use Rattle.pdl_scope.specs.declared.fault.ScopeFault.TheVariants.{Script, NoMemory}
-use Rattle.pdl_scope.specs.Answers.{IfScript, IsFault, Prints, Runs}
-use Rattle.pdl_scope.specs.Costs.{NewRootsMoveTheirSize, total_size}
+use Rattle.pdl_scope.specs.Answers.{IsFault, Runs}
+use Rattle.pdl_scope.specs.Costs.{MovesUpTo, arrays_after}
+use Rattle.pdl_scope.specs.Growth.{as_grown}
 use Rattle.pdl_scope.specs.Scope.{Scope, engine_of, machine, Grows}
-use Rattle.pdl_session.specs.Came.{evaluated, flow_came, parts_left}
+use Rattle.pdl_session.specs.Came.{came, evaluated, flow_came, parts_left}
 use Rattle.pdl_session.specs.Costs.{EvaluatesWithin, named_steps}
-use Rattle.pdl_session.specs.Moves.{MovesUpTo}
 use Rattle.pdl_session.proofs.Expressions.{read_le_ready}
-use Rattle.pdl_session.proofs.Moves.{came_up_to, stepped_new, stepped_refused}
+use Rattle.pdl_session.proofs.Gained.{size_in}
+use Rattle.pdl_session.proofs.Moves.{came_up_to}
 use Rattle.pdl_engine.specs.Reading.{read_steps}
 use Rattle.pdl_numbers.specs.Typed.{count_moved}
 use Rattle.pdl_session.specs.Flowing.{Forms}
@@ -78,7 +78,7 @@ grown_arrays older stay old new (k ∷ ks) grown sound live = by_place (grown_ar
 pub equals_value : OlderStay → OlderElementsStay → MeaningLaws → FormulasAreValues → (old mid : Scope) (e : Tree) (v : ℕ) (f : FormulaTree) → IsWhole (machine old) → IsWhole (machine mid) → Grows old mid
     → value_of old.names old.arrays e ≡ Ok (mid.arrays, v) → formula_of old.names e ≡ Ok f → AreLive old.arrays.world (arrays_in f) → meaning (array_in mid.arrays) f ≡ Ok (array_in mid.arrays v)
 equals_value older stay laws values old mid e v f whole after g value_is formula_is live =
-    sym (laws.same (array_in old.arrays) (array_in mid.arrays) f (grown_arrays older stay old.arrays mid.arrays (arrays_in f) g.arrays after.sound live))
+    sym (laws.same (array_in old.arrays) (array_in mid.arrays) f (grown_arrays older stay old.arrays mid.arrays (arrays_in f) (as_grown old mid g) after.sound live))
     ∙ values (machine old) e (mid.arrays, v) f whole value_is formula_is after.sound
 
 -- arrays stay there
@@ -90,43 +90,61 @@ still_live old new (k ∷ ks) g live = (g.still k live.0, still_live old new ks 
 abbrev formed : State → (name : List ℕ) → Arrays × ℕ → Formed → Stepped
 formed s x v formula = and_then formula (λ f. bound (begun s v.0 f) x (new_root v.0 (array_in v.0 v.1)))
 
+flow_is : (old mid : Scope) (x : List ℕ) (e : Tree) (v : ℕ) (f : FormulaTree) → value_of old.names old.arrays e ≡ Ok (mid.arrays, v) → formula_of old.names e ≡ Ok f → Grows old mid
+    → effect [] (machine old) (flow x e) ≡ bound (begun (machine mid) mid.arrays f) x (new_root mid.arrays (array_in mid.arrays v))
+flow_is old mid x e v f value_is formula_is g =
+    let next : State → Stepped = λ s. bound (begun s mid.arrays f) x (new_root mid.arrays (array_in mid.arrays v)) in
+    ap (λ (y : Valued). and_then y (flowing (machine old) x e)) value_is ∙ ap (formed (machine old) x (mid.arrays, v)) formula_is ∙ ap next (sym (state_is old mid g))
+
 pub runs_flow : {T : Type 0} (r : Result T ScopeFault) (old mid new : Scope) (x : List ℕ) (e : Tree) (v : ℕ) (f : FormulaTree) → value_of old.names old.arrays e ≡ Ok (mid.arrays, v) → formula_of old.names e ≡ Ok f → Grows old mid
     → Runs (bound (begun (machine mid) mid.arrays f) x (new_root mid.arrays (array_in mid.arrays v))) mid new [] [] r → Runs (effect [] (machine old) (flow x e)) old new [] [] r
 runs_flow r old mid new x e v f value_is formula_is g h =
-    let next : State → Stepped = λ s. bound (begun s mid.arrays f) x (new_root mid.arrays (array_in mid.arrays v)) in
-    let is : effect [] (machine old) (flow x e) ≡ next (machine mid) =
-    ap (λ (y : Valued). and_then y (flowing (machine old) x e)) value_is ∙ ap (formed (machine old) x (mid.arrays, v)) formula_is ∙ ap next (sym (state_is old mid g)) in
-    runs_from r (next (machine mid)) (effect [] (machine old) (flow x e)) old mid new [] [] is g h
+    runs_from r (bound (begun (machine mid) mid.arrays f) x (new_root mid.arrays (array_in mid.arrays v))) (effect [] (machine old) (flow x e)) old mid new [] [] (flow_is old mid x e v f value_is formula_is g) g h
 
 -- ---- what it moves
 
-new_arrays : (x : Result Names Fault) (s new : State) (v : Arrays × ℕ) → Prints (and_then x (λ names. Ok (record s { names = names; arrays = v.0 }, []))) new [] [] → new.arrays ≡ v.0
-new_arrays (Ok names) s new v h = ap (λ (t : State). t.arrays) h.0
-new_arrays (Err e) s new v h = absurd h
+begun_has : (r : Result Names Fault) (s : State) (v : Arrays × ℕ) (a : Arrays) → size_in a ≤ size_in v.0 → size_in a ≤ size_in (arrays_after (and_then r (λ names. Ok (record s { names = names; arrays = v.0 }, []))) a)
+begun_has (Ok names) s v a more = more
+begun_has (Err e) s v a more = omega arith
+
+formed_has : (s : State) (x : List ℕ) (v : Arrays × ℕ) (f : Formed) → size_in v.0 ≤ size_in (arrays_after (formed s x v f) v.0)
+formed_has s x v (Err e) = omega arith
+formed_has s x v (Ok f) =
+    let m : Made = array_in v.0 v.1 in
+    let a = with_new v.0 (root m.ty m.dims m.elems) in
+    let one : size_in a.0 ≡ count_moved m.elems + size_in v.0 = refl in
+    begun_has (bind_name s.names x a.1) (begun s v.0 f) a v.0 (omega (arith, one))
+
+-- what moves for the arrays of a flow's expression
+flow_has : (s : State) (x : List ℕ) (e : Tree) (y : Valued) (left : Arrays) → size_in (came y left) ≤ size_in (arrays_after (and_then y (flowing s x e)) (came y left))
+flow_has s x e (Ok v) left = formed_has s x v (formula_of s.names e)
+flow_has s x e (Err f) left = omega arith
+
+-- no flow was made
+pub flow_unmade : (old : Scope) (x : List ℕ) (e : Tree) (before after : ℕ) → MovesUpTo (named_steps old e) old (evaluated old.names old.arrays e) before after → MovesUpTo (named_steps old e) old (flow_came old x e) before after
+flow_unmade old x e before after h =
+    let has : size_in (evaluated old.names old.arrays e) ≤ size_in (flow_came old x e) = flow_has (machine old) x e (value_of old.names old.arrays e) (parts_left old.names old.arrays e) in
+    omega (arith, h, has)
 
 -- the value came, and no flow
-pub flow_unmade : {T : Type 0} (r : Result T ScopeFault) (f : ScopeFault) (old mid : Scope) (x : List ℕ) (e : Tree) (before after v : ℕ) → IsErrAnd r (λ g. g ≡ f) → value_of old.names old.arrays e ≡ Ok (mid.arrays, v) → IsFault (effect [] (machine old) (flow x e)) f
-    → after + total_size old.arrays.world ≤ before + total_size mid.arrays.world + named_steps old e → MovesUpTo (named_steps old e) old (flow_came old x e) before after r
-flow_unmade r f old mid x e before after v is valued fault h =
-    stepped_refused r f (effect [] (machine old) (flow x e)) (named_steps old e) old (evaluated old.names old.arrays e) before after is fault
-    (came_up_to r (named_steps old e) old (value_of old.names old.arrays e) (parts_left old.names old.arrays e) mid.arrays before after v valued h)
+pub flow_unformed : (old mid : Scope) (x : List ℕ) (e : Tree) (before after v : ℕ) → value_of old.names old.arrays e ≡ Ok (mid.arrays, v) → EvaluatesWithin (named_steps old e) old mid mid.arrays before after (Ok v)
+    → MovesUpTo (named_steps old e) old (flow_came old x e) before after
+flow_unformed old mid x e before after v valued h =
+    flow_unmade old x e before after (came_up_to (named_steps old e) old (value_of old.names old.arrays e) (parts_left old.names old.arrays e) mid.arrays before after v valued (omega (arith, h)))
 
--- the elements of the root are among those that came
-pub flowing_within : {T : Type 0} (r : Result T ScopeFault) → NewRootsMoveTheirSize → (old mid new : Scope) (x : List ℕ) (e : Tree) (f : FormulaTree) (before now after v : ℕ) → value_of old.names old.arrays e ≡ Ok (mid.arrays, v)
-    → EvaluatesWithin (named_steps old e) old mid mid.arrays before now (Ok v) → after ≤ now + (read_steps (engine_of mid) v + count_moved (elements mid.arrays.world v)) → IfScript r ((new ≡ mid) × (after ≡ now))
-    → Runs (bound (begun (machine mid) mid.arrays f) x (new_root mid.arrays (array_in mid.arrays v))) mid new [] [] r → Runs (effect [] (machine old) (flow x e)) old new [] [] r → MovesUpTo (named_steps old e) old (flow_came old x e) before after r
-flowing_within (Ok t) law old mid new x e f before now after v valued first counted refused made ran =
-    let m : Made = array_in mid.arrays v in
-    let a = with_new mid.arrays (root m.ty m.dims m.elems) in
-    let here : new.arrays ≡ a.0 = new_arrays (bind_name mid.names x a.1) (begun (machine mid) mid.arrays f) (machine new) a made in
-    let grew = law mid new m a.1 (ap (λ (b : Arrays). Ok (b, a.1)) (sym here)) in
+-- the value came, and then a flow or none
+pub flowing_within : (old mid : Scope) (x : List ℕ) (e : Tree) (f : FormulaTree) (before now after v : ℕ) → value_of old.names old.arrays e ≡ Ok (mid.arrays, v) → formula_of old.names e ≡ Ok f → Grows old mid
+    → EvaluatesWithin (named_steps old e) old mid mid.arrays before now (Ok v)
+    → MovesUpTo (read_steps (engine_of mid) v) mid (arrays_after (bound (begun (machine mid) mid.arrays f) x (new_root mid.arrays (array_in mid.arrays v))) mid.arrays) now after
+    → MovesUpTo (named_steps old e) old (flow_came old x e) before after
+flowing_within old mid x e f before now after v value_is formula_is g first second =
     let cost = read_le_ready (engine_of mid) v in
-    let late : flow_came old x e ≡ new.arrays = stepped_new (effect [] (machine old) (flow x e)) (evaluated old.names old.arrays e) new [] [] ran in
-    subst (λ (b : Arrays). after + total_size old.arrays.world ≤ before + total_size b.world + named_steps old e) (sym late) (omega (arith, first, counted, grew, cost))
-flowing_within {T} (Err (Script s)) law old mid new x e f before now after v valued first counted refused made ran =
-    let unmoved : after ≡ now = refused.1 in
-    flow_unmade {T = T} (Err (Script s)) (Script s) old mid x e before after v refl valued ran.0 (omega (arith, first, unmoved))
-flowing_within (Err NoMemory) law old mid new x e f before now after v valued first counted refused made ran = tt
+    let next : State → Stepped = λ s. bound (begun s mid.arrays f) x (new_root mid.arrays (array_in mid.arrays v)) in
+    let evaluated_is : evaluated old.names old.arrays e ≡ mid.arrays = ap (λ (y : Valued). came y (parts_left old.names old.arrays e)) value_is in
+    let late : flow_came old x e ≡ arrays_after (next (machine mid)) mid.arrays =
+    ap (λ (r : Stepped). arrays_after r (evaluated old.names old.arrays e)) (flow_is old mid x e v f value_is formula_is g) ∙ ap (arrays_after (next (machine mid))) evaluated_is in
+    let size : size_in (flow_came old x e) ≡ size_in (arrays_after (next (machine mid)) mid.arrays) = ap size_in late in
+    omega (arith, first, second, cost, size)
 
 -- ---- the formula of an expression, from those of its parts
 

@@ -23,13 +23,13 @@ kept_views_cost_nothing present st old new before after to text m is keeps =
     let world : new.arrays.world ≡ kept (machine m.mid) = ap (λ (s : State). s.arrays.world) m.left in
     let mid_keeps : KeepsViews m.mid.arrays.world (kept (machine m.mid)) = subst (λ (s : State). KeepsViews s.arrays.world (kept s)) (sym mid_is) keeps in
     let same : after ≡ m.now = m.counted (subst (λ w. KeepsViews m.mid.arrays.world w) (sym world) mid_keeps) in
-    subst (λ n. MovesByForm {T = Unit {0}} st old before n (Ok tt)) (sym same) m.by_form
+    subst (MovesByForm st old before) (sym same) m.by_form
 
 pub ready_prints_move_nothing : ReadyPrintsMoveNothing
 ready_prints_move_nothing present x is_info v old new before after swept m bound ready =
     let is : effect present (machine old) (show (named x) is_info) ≡ Ok (with_arrays (machine old) old.arrays, printed is_info (array_in old.arrays v)) =
     ap (λ (o : Option ℕ). and_then (known old.arrays o) (λ u. Ok (after_printing (machine old) is_info u))) bound in
-    let alone : MovesByForm {T = Unit {0}} (show (named x) is_info) old before after (Ok tt) =
+    let alone : MovesByForm (show (named x) is_info) old before after =
     kept_views_cost_nothing present (show (named x) is_info) old new before after (with_arrays (machine old) old.arrays) (printed is_info (array_in old.arrays v)) m is (λ u view. subst (λ w. IsView w u) (sym swept.arrays) view) in
     let late : evaluated old.names old.arrays (named x) ≡ old.arrays = ap (λ (o : Option ℕ). came (known old.arrays o) old.arrays) bound in
     let cost : named_steps old (named x) ≡ 0 = ap (λ (o : Option ℕ). option_map_or (ready_steps (engine_of old)) o 0) bound ∙ ready in

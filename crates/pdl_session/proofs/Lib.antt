@@ -29,6 +29,7 @@ pub mod Bounded
 pub mod Resting
 pub mod Worked
 pub mod Moved
+pub mod Gained
 pub mod Expressions
 pub mod Moves
 pub mod Formed

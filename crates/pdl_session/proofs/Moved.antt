@@ -1,5 +1,5 @@
 -- What calls move, from what their parts move.
-use Rattle.std.proofs.Common.{◌≡◌, ℕ, zero, suc, ◌+◌, ◌≤◌, ◌<◌, Bool, true, false, List, [], ◌∷◌, ◌++◌, take, drop, get_or, length, map, Option, Some, None, Result, Ok, Err, inl, inr, refl, sym, ap, subst, ◌∙◌, arith}
+use Rattle.std.proofs.Common.{◌≡◌, ℕ, zero, suc, ◌+◌, ◌≤◌, ◌<◌, Bool, true, false, List, [], ◌∷◌, ◌++◌, take, drop, get_or, length, Option, Some, None, refl, sym, ap, subst, arith}
 use Rattle.std.proofs.Common.{Bor}
 use Rattle.std.specs.Prelude.{if◌then◌else◌, sum_by}
 use Rattle.std.proofs.lemmas.List.{take-append-drop, take_more}
@@ -7,13 +7,12 @@ use Rattle.std.proofs.lemmas.List.Sums.{sum_by-cons}
 use Rattle.pdl_world.specs.Sound.{IsLive}
 use Rattle.pdl_world.specs.World.{World}
 use Rattle.pdl_engine.specs.Reading.{read_steps}
-use Rattle.pdl_engine.specs.State.{ready_steps}
 use Rattle.pdl_machine.specs.Then.{all_of, and_more}
 use Rattle.pdl_scope.specs.Costs.{CostsNoMore, GrowingMakesNoneDearer, IsInOrder}
 use Rattle.pdl_scope.specs.Growth.{reads_grow}
 use Rattle.pdl_scope.specs.Scope.{Scope, engine_of, OnlyReads}
 use Rattle.pdl_session.specs.Arguments.{AreGivenLive, IsGivenLive, array_and_one, array_number, few_arrays, one_array, second_array, text_and_more, two_and_more, two_arrays}
-use Rattle.pdl_session.specs.Costs.{all_steps, given_steps, read_all, read_one, ready_all}
+use Rattle.pdl_session.specs.Costs.{all_steps, given_steps, read_all, read_one}
 use Rattle.pdl_session.specs.declared.given.Given.{Given}
 use Rattle.pdl_session.specs.declared.given.Given.TheVariants.{Array, Text, OfType}
 

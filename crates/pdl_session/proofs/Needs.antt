@@ -1,5 +1,5 @@
 -- What a state needs where new arrays came, elements changed, or what nothing needs was let go.
-use Rattle.std.proofs.Common.{◌≡◌, ℕ, List, [], ◌∷◌, ◌++◌, map, Bool, true, false, refl, sym, ap, subst, ◌∙◌, eq-eqb}
+use Rattle.std.proofs.Common.{◌≡◌, ℕ, List, [], ◌∷◌, ◌++◌, Bool, true, false, refl, sym, ap, subst, ◌∙◌, eq-eqb}
 use Rattle.std.specs.Prelude.{◌==◌, ◌||◌, IsSomeAnd}
 use Rattle.pdl_lemmas.specs.Tests.{by_test}
 use Rattle.pdl_flow.specs.Formula.{arrays_in}
@@ -11,7 +11,7 @@ use Rattle.pdl_world.specs.SweepLaws.{ReachedAreSeenAsBefore}
 use Rattle.pdl_world.specs.World.{World}
 use Rattle.pdl_machine.specs.Arrays.{Arrays}
 use Rattle.pdl_machine.specs.Flows.{Flow, Flows, all_read, is_reached, Needs, needs_with, needs_of}
-use Rattle.pdl_machine.specs.Following.{AreFlows, AreOlder, IsFlow}
+use Rattle.pdl_machine.specs.Following.{AreFlows, AreOlder}
 use Rattle.pdl_machine.specs.Laws.{AreGrown, SweepsByFewer}
 use Rattle.pdl_machine.specs.State.{State, AreLive, IsSwept, IsWhole, held, kept, needs, with_world}
 use Rattle.pdl_machine.specs.Tidy.{settled}

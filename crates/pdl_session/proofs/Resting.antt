@@ -1,7 +1,7 @@
 -- What a session keeps from one statement to the next, and what it moves.
-use Rattle.std.proofs.Common.{◌≡◌, ℕ, ℤ, ◌+◌, ◌≤◌, Bool, true, false, List, [], ◌∷◌, ◌++◌, map, Option, Some, None, Result, Ok, Err, inl, inr, refl, sym, ap, subst, ◌∙◌, arith, eq-eqb, eqb-true}
+use Rattle.std.proofs.Common.{◌≡◌, ℕ, ℤ, ◌+◌, ◌≤◌, Bool, true, false, List, [], ◌∷◌, ◌++◌, map, Option, Some, None, Result, Ok, Err, refl, sym, ap, subst, ◌∙◌, arith, eq-eqb, eqb-true}
 use Rattle.std.specs.Option.{option_map_or}
-use Rattle.std.specs.Prelude.{◌==◌, if◌then◌else◌, nat_eq, is_ok, IfSome, IsSomeAnd, OnErr, OnOk, length}
+use Rattle.std.specs.Prelude.{◌==◌, if◌then◌else◌, nat_eq, is_ok, IfSome, IsSomeAnd, OnErr, OnOk}
 use Rattle.std.specs.Cmp.Lexicographic.{pointwise}
 use Rattle.pdl_lemmas.specs.Tests.{by_test}
 use Rattle.pdl_shape.specs.Shape.{size_of}
@@ -11,24 +11,25 @@ use Rattle.pdl_ops.specs.Elementwise.{OpRefusal}
 use Rattle.pdl_flow.specs.Meaning.{meaning}
 use Rattle.pdl_world.specs.Laws.{OlderPathsStay, OlderStay, PathsStay}
 use Rattle.pdl_world.specs.Paths.{path, root_of}
-use Rattle.pdl_world.specs.Sound.{IsLive, IsSound, NumbersBelow}
+use Rattle.pdl_world.specs.Sound.{IsLive, IsSound}
 use Rattle.pdl_world.specs.Swept.{is_listed, sweep, held_itself}
 use Rattle.pdl_world.specs.SweepLaws.{NewGoesUnheld, ReachedAreSeenAsBefore}
 use Rattle.pdl_world.specs.Windows.{base}
 use Rattle.pdl_world.specs.World.{World, ArrayDef, Look, look, root, dims_in, has_repeats, places_in, assign as assign_in}
+use Rattle.pdl_engine.specs.Held.{written_back as written_back_in}
 use Rattle.pdl_engine.specs.Reading.{IsWarm, KeepsViews, read_steps, view_as}
 use Rattle.pdl_engine.specs.State.{is_fresh}
 use Rattle.pdl_lexemes.specs.declared.AssignOp.{AssignOp}
-use Rattle.pdl_syntax.specs.StatementTree.{StatementTree, View, assign, bind, bind_list, pp_def, reshape, sever, show, show_text, undef, unwatch, vars, watch, dump, flow}
+use Rattle.pdl_syntax.specs.StatementTree.{StatementTree, assign, bind, bind_list, pp_def, reshape, sever, show, show_text, undef, unwatch, vars, watch, dump, flow}
 use Rattle.pdl_syntax.specs.Tree.{Tree, number, named, literal, unary, binary, call}
 use Rattle.pdl_machine.specs.declared.fault.Fault.{Fault}
 use Rattle.pdl_machine.specs.declared.fault.Fault.TheVariants.{FlowTarget}
-use Rattle.pdl_machine.specs.Flows.{Flow, Flows, Needs, followers, is_flow}
+use Rattle.pdl_machine.specs.Flows.{Flows, Needs, followers, is_flow}
 use Rattle.pdl_machine.specs.Following.{follow, followed, given}
 use Rattle.pdl_machine.specs.Arrays.{Arrays, array_in, with_new}
 use Rattle.pdl_machine.specs.Dumpable.{IsSpelled}
 use Rattle.pdl_machine.specs.Laws.{AreGrown}
-use Rattle.pdl_machine.specs.Names.{Named, Names, found, number_of}
+use Rattle.pdl_machine.specs.Names.{Named, found, number_of}
 use Rattle.pdl_machine.specs.Outcome.{Valued}
 use Rattle.pdl_machine.specs.State.{State, AreLive, IsSwept, IsWhole, held, kept, needs, with_arrays, with_world}
 use Rattle.pdl_machine.specs.Step.{Stepped, assigned, assigning, effect, flowed, target_in, unless_flow}
@@ -39,7 +40,8 @@ use Rattle.pdl_machine.specs.Value.{known, number_made, value_of}
 use Rattle.pdl_machine.specs.Watches.{attached}
 use Rattle.pdl_scope.specs.declared.fault.ScopeFault.{ScopeFault}
 use Rattle.pdl_scope.specs.Answers.{Prints, Runs}
-use Rattle.pdl_scope.specs.Growth.{unread}
+use Rattle.pdl_scope.specs.Costs.{IsInOrder, NewArraysGoUnwritten}
+use Rattle.pdl_scope.specs.Growth.{as_grown, unread}
 use Rattle.pdl_scope.specs.Scope.{Scope, engine_of, machine, Grows, OnlyReads}
 use Rattle.pdl_session.specs.Bounds.{AssignsPlainly, LeavesReadable, MovesPlainly, PrintsPlainly, RunsInPlace, plain_count, warm_after}
 use Rattle.pdl_session.specs.Session.{IsAsBefore, IsAtRest, IsKeptWarm}
@@ -108,15 +110,24 @@ grown_needs : Laws → (old mid new : Scope) → LetsGo old mid new → Grows ol
 grown_needs laws old mid new h grown =
     ap needs (state_is old mid grown)
     ∙ needs_same old.arrays.world mid.arrays.world old.flows (held (machine old))
-    (grown_paths laws.older laws.paths old.arrays mid.arrays (needs (machine old)).arrays grown.arrays h.ran.sound (whole_needs_live (machine old) h.whole))
+    (grown_paths laws.older laws.paths old.arrays mid.arrays (needs (machine old)).arrays (as_grown old mid grown) h.ran.sound (whole_needs_live (machine old) h.whole))
 
 -- and the arrays of before are left
 pub grown_back : Laws → (old mid new : Scope) → LetsGo old mid new → Grows old mid → new.arrays.world ≡ old.arrays.world
 grown_back laws old mid new h grown =
     world_is old mid new h
     ∙ ap (λ (n : Needs). sweep mid.arrays.world n.arrays) (grown_needs laws old mid new h grown)
-    ∙ swept_grown laws.goes laws.older old.arrays mid.arrays (needs (machine old)).arrays grown.arrays h.ran.sound (whole_needs_live (machine old) h.whole)
+    ∙ swept_grown laws.goes laws.older old.arrays mid.arrays (needs (machine old)).arrays (as_grown old mid grown) h.ran.sound (whole_needs_live (machine old) h.whole)
     ∙ h.swept.arrays
+
+-- after a refusal nothing is moved when arrays are let go
+pub refused_unmoved : {T : Type 0} → Laws → NewArraysGoUnwritten → (r : Result T ScopeFault) (x : Stepped) (old mid new : Scope) (now after : ℕ) (o n : List ℕ) → LetsGo old mid new → IsInOrder old → IsInOrder mid → Runs x old mid o n r
+    → now ≤ after → after ≤ now + written_back_in (engine_of mid) new.arrays.world mid.arrays.world → OnErr r (after ≡ now)
+refused_unmoved laws unwritten (Ok y) x old mid new now after o n h first last ran risen written = tt
+refused_unmoved laws unwritten (Err e) x old mid new now after o n h first last ran risen written =
+    let back : new.arrays.world ≡ old.arrays.world = grown_back laws old mid new h ran.1.grown in
+    let none : written_back_in (engine_of mid) new.arrays.world mid.arrays.world ≡ 0 = unwritten old mid first last ran.1.grown new.arrays.world (λ v live. subst (λ w. IsLive w v) (sym back) live) in
+    omega (arith, risen, written, none)
 
 -- so where arrays were read
 pub reads_back : Laws → (old mid new : Scope) → LetsGo old mid new → OnlyReads old mid → new.arrays.world ≡ old.arrays.world

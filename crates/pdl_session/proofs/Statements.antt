@@ -19,13 +19,14 @@ use Rattle.pdl_machine.specs.Tidy.{tidy}
 use Rattle.pdl_machine.specs.Laws.{NewArraysUnseen}
 use Rattle.pdl_machine.specs.Step.{Stepped, bind_value, bound, roots_bound, outputs_bound, list_bound, assigned, assigning, effect, flowed, target_in}
 use Rattle.pdl_scope.specs.declared.fault.ScopeFault.{ScopeFault}
+use Rattle.pdl_scope.specs.declared.fault.ScopeFault.TheVariants.{NoMemory}
 use Rattle.pdl_session.specs.declared.given.Given.{Given}
 use Rattle.pdl_session.specs.Arguments.{arguments, all_seen_of}
 use Rattle.pdl_scope.specs.Scope.{Scope, machine, OnlyReads, Grows}
 use Rattle.pdl_scope.specs.Answers.{IsFault, Prints, Runs}
 use Rattle.pdl_print.specs.Pieces.{Begins}
 use Rattle.pdl_session.specs.Performed.{Performs}
-use Rattle.pdl_scope.specs.Growth.{grows_trans, unread, reads_grow}
+use Rattle.pdl_scope.specs.Growth.{as_grown, grows_trans, unread, reads_grow}
 use Rattle.pdl_session.proofs.Facts.{first_fault, state_is}
 use Rattle.pdl_session.proofs.Needs.{read_live}
 
@@ -42,7 +43,7 @@ runs_bound r old mid new x valued id is g h =
     runs_from r (bind_value (machine mid) x (mid.arrays, id)) (bound (machine old) x valued) old mid new [] [] (ap (λ v. and_then v (bind_value (machine old) x)) is ∙ ap next (sym (state_is old mid g))) g h
 
 -- the one output of a call, bound to one name
-one_output : (s : State) (x f : List ℕ) (t : Arrays × List Argument) → list_bound s (x ∷ []) f t ≡ bound s x (call_value s.names f t.0 t.1)
+pub one_output : (s : State) (x f : List ℕ) (t : Arrays × List Argument) → list_bound s (x ∷ []) f t ≡ bound s x (call_value s.names f t.0 t.1)
 one_output s x f t = by_callee (callee_of s.names f)
   where
     by_callee : (c : Result Callee Fault) → and_then c (outputs_bound s (x ∷ []) t) ≡ and_then (and_then c (value_by t.0 t.1)) (bind_value s x)
@@ -70,7 +71,7 @@ abbrev outputs_for : State → List (List ℕ) → List ℕ → List Seen → Re
 outputs_for s xs f seen = and_then (callee_of s.names f) (several (length xs) seen)
 
 -- the outputs of a call, bound to names that aren't one
-several_is : (s : State) (xs : List (List ℕ)) (f : List ℕ) (given : List Given) → length xs ≢ 1
+pub several_is : (s : State) (xs : List (List ℕ)) (f : List ℕ) (given : List Given) → length xs ≢ 1
     → list_bound s xs f (s.arrays, arguments given) ≡ and_then (outputs_for s xs f (all_seen_of s.arrays given)) (roots_bound s xs)
 several_is s xs f given many = by_callee (callee_of s.names f) xs many
   where
@@ -81,21 +82,25 @@ several_is s xs f given many = by_callee (callee_of s.names f) xs many
     by_callee (Ok c) [] many = refl
     by_callee (Ok c) (x ∷ y ∷ xs) many = refl
 
+-- which are found in a scope where something was read
+pub several_read : (old mid : Scope) (xs : List (List ℕ)) (f : List ℕ) (given : List Given) (wanted : ℕ) (ms : List Made) → length xs ≢ 1 → wanted ≡ length xs
+    → and_then (callee_of old.names f) (several wanted (all_seen_of old.arrays given)) ≡ Ok ms → OnlyReads old mid → list_bound (machine old) xs f (old.arrays, arguments given) ≡ roots_bound (machine mid) xs ms
+several_read old mid xs f given wanted ms many count output same =
+    let all : outputs_for (machine old) xs f (all_seen_of old.arrays given) ≡ Ok ms = ap (λ n. and_then (callee_of old.names f) (several n (all_seen_of old.arrays given))) (sym count) ∙ output in
+    several_is (machine old) xs f given many ∙ ap (λ o. and_then o (roots_bound (machine old) xs)) all ∙ ap (λ (s : State). roots_bound s xs ms) (sym (unread old mid same))
+
 pub runs_several : {T : Type 0} (r : Result T ScopeFault) (old mid new : Scope) (xs : List (List ℕ)) (f : List ℕ) (given : List Given) (wanted : ℕ) (ms : List Made) → length xs ≢ 1 → wanted ≡ length xs
     → and_then (callee_of old.names f) (several wanted (all_seen_of old.arrays given)) ≡ Ok ms → OnlyReads old mid → Runs (roots_bound (machine mid) xs ms) mid new [] [] r
     → Runs (list_bound (machine old) xs f (old.arrays, arguments given)) old new [] [] r
 runs_several r old mid new xs f given wanted ms many count output same h =
-    let all : outputs_for (machine old) xs f (all_seen_of old.arrays given) ≡ Ok ms = ap (λ n. and_then (callee_of old.names f) (several n (all_seen_of old.arrays given))) (sym count) ∙ output in
-    let is : list_bound (machine old) xs f (old.arrays, arguments given) ≡ roots_bound (machine mid) xs ms =
-    several_is (machine old) xs f given many ∙ ap (λ o. and_then o (roots_bound (machine old) xs)) all ∙ ap (λ (s : State). roots_bound s xs ms) (sym (unread old mid same)) in
-    runs_from r (roots_bound (machine mid) xs ms) (list_bound (machine old) xs f (old.arrays, arguments given)) old mid new [] [] is (reads_grow old mid same) h
+    runs_from r (roots_bound (machine mid) xs ms) (list_bound (machine old) xs f (old.arrays, arguments given)) old mid new [] [] (several_read old mid xs f given wanted ms many count output same) (reads_grow old mid same) h
 
 pub several_refused : (old : State) (xs : List (List ℕ)) (f : List ℕ) (given : List Given) (wanted : ℕ) (e : ScopeFault) → length xs ≢ 1 → wanted ≡ length xs
     → IsFault (and_then (callee_of old.names f) (several wanted (all_seen_of old.arrays given))) e → IsFault (list_bound old xs f (old.arrays, arguments given)) e
 several_refused old xs f given wanted e many count h =
     subst (λ y. IsFault y e) (sym (several_is old xs f given many)) (first_fault (outputs_for old xs f (all_seen_of old.arrays given)) (roots_bound old xs) e (subst (λ (n : ℕ). IsFault (and_then (callee_of old.names f) (several n (all_seen_of old.arrays given))) e) count h))
 
-list_same : (s : State) (a : Arrays) (xs : List (List ℕ)) (f : List ℕ) (t : Arrays × List Argument) → list_bound (with_arrays s a) xs f t ≡ list_bound s xs f t
+pub list_same : (s : State) (a : Arrays) (xs : List (List ℕ)) (f : List ℕ) (t : Arrays × List Argument) → list_bound (with_arrays s a) xs f t ≡ list_bound s xs f t
 list_same s a xs f t = by_call (callee_of s.names f) xs
   where
     by_call : (x : Result Callee Fault) (xs : List (List ℕ)) → and_then x (outputs_bound (with_arrays s a) xs t) ≡ and_then x (outputs_bound s xs t)
@@ -148,7 +153,12 @@ pub kept_seen : {T : Type 0} (r : Result T ScopeFault) (x : Stepped) (old new : 
     → OnErr r (tidy left ≡ seen)
 kept_seen (Ok u) x old new left seen o n unseen whole after gone is h = tt
 kept_seen (Err e) x old new left seen o n unseen whole after gone is h =
-    gone ∙ ap tidy (state_is old new h.1.grown) ∙ unseen (machine old) new.arrays h.1.grown.arrays after.sound whole.live (read_live old.arrays old.flows whole.flows) ∙ is
+    gone ∙ ap tidy (state_is old new h.1.grown) ∙ unseen (machine old) new.arrays (as_grown old new h.1.grown) after.sound whole.live (read_live old.arrays old.flows whole.flows) ∙ is
+
+-- nor is anything printed then
+pub kept_out : {T : Type 0} (r : Result T ScopeFault) (x : Stepped) (old new : Scope) (o n : List ℕ) → Runs x old new o n r → OnErr r (n ≡ o)
+kept_out (Ok u) x old new o n h = tt
+kept_out (Err e) x old new o n h = h.1.printed
 
 -- what a refused statement printed is cut back
 pub cut_front : (front text : List ℕ) → Begins front text → take (length front) text ≡ front
@@ -159,6 +169,11 @@ pub silent : {T : Type 0} (r : Result T ScopeFault) (wanted : Stepped) (old new 
 silent (Ok x) (Ok (s, t)) old new out h = (h.0, sym (append-nil out) ∙ ap (λ z. out ++ z) h.1)
 silent (Ok x) (Err e) old new out h = absurd h
 silent (Err f) wanted old new out h = (h.0, record { grown = h.1.grown; front = record { rest = []; is = sym (append-nil out) } })
+
+-- memory ran out when a part was printed
+pub falls_short : {T : Type 0} (r : Result T ScopeFault) (wanted : Stepped) (old new : Scope) (o n : List ℕ) → IsErrAnd r (λ e. e ≡ NoMemory) → Grows old new → Begins o n → Performs wanted old new o n r
+falls_short (Ok x) wanted old new o n is g front = absurd is
+falls_short (Err e) wanted old new o n is g front = (subst (λ f. IsFault wanted f) (sym is) tt, record { grown = g; front = front })
 
 -- so where a refusal is handed on
 pub silent_err : {T : Type 0} (r : Result T ScopeFault) (f : ScopeFault) (wanted : Stepped) (old new : Scope) (out : List ℕ) → IsErrAnd r (λ e. e ≡ f)

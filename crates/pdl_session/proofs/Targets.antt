@@ -15,9 +15,7 @@ use Rattle.pdl_machine.specs.Arrays.{Arrays}
 use Rattle.pdl_machine.specs.Flows.{Flows, is_flow}
 use Rattle.pdl_machine.specs.Step.{behind, target, target_in, unless_flow}
 use Rattle.pdl_machine.specs.Then.{and_then}
-use Rattle.pdl_machine.specs.Outcome.{Valued}
-use Rattle.pdl_machine.specs.Value.{Taken, value_of, taken}
-use Rattle.pdl_session.specs.Came.{args_left, came, left_then, parts_left}
+use Rattle.pdl_machine.specs.Value.{value_of, taken}
 use Rattle.pdl_session.specs.declared.given.Given.{Given}
 use Rattle.pdl_session.specs.declared.given.Given.TheVariants.{Array}
 use Rattle.pdl_session.specs.Arguments.{arguments}
@@ -66,30 +64,6 @@ fault_at names a x views i (Script f) h =
     ap (λ vs. value_of names a (target x (map view_of vs))) (sym (take-append-drop i views))
     ∙ ap (value_of names a) (ap (target x) (map-append view_of (take i views) (drop i views)) ∙ fold-append called (named x) (map view_of (take i views)) (map view_of (drop i views)))
     ∙ fault_stays names a f (map view_of (drop i views)) (target x (map view_of (take i views))) h
-
--- nor does it leave anything
-behind_left : (names : Names) (a : Arrays) (e : Tree) (f : Fault) → value_of names a e ≡ Err f → (args : Args) → args_left names a (behind e args) ≡ parts_left names a e
-behind_left names a e f h none = ap (λ (v : Valued). came v (parts_left names a e)) h
-behind_left names a e f h (value front v) =
-    ap (λ (t : Taken). left_then t (args_left names a (behind e front)) (λ b. came (value_of names b v) (parts_left names b v))) (fault_behind names a e f h front)
-    ∙ behind_left names a e f h front
-behind_left names a e f h (text front t) = behind_left names a e f h front
-behind_left names a e f h (of_type front ty) = behind_left names a e f h front
-
-views_left : (names : Names) (a : Arrays) (f : Fault) (views : List View) (e : Tree) → value_of names a e ≡ Err f → parts_left names a (fold called e views) ≡ parts_left names a e
-views_left names a f [] e h = refl
-views_left names a f (v ∷ views) e h =
-    views_left names a f views (called e v) (rw (fault_behind names a e f h v.1) refl)
-    ∙ ap (λ (t : Taken). came t (args_left names a (behind e v.1))) (fault_behind names a e f h v.1)
-    ∙ behind_left names a e f h v.1
-
--- what the views leave of which one is refused
-pub target_parts : (names : Names) (a : Arrays) (x : List ℕ) (views : List ViewCall) (i : ℕ) (f : Fault) → value_of names a (target x (map view_of (take i views))) ≡ Err f
-    → parts_left names a (target x (map view_of views)) ≡ parts_left names a (target x (map view_of (take i views)))
-target_parts names a x views i f h =
-    ap (λ vs. parts_left names a (target x (map view_of vs))) (sym (take-append-drop i views))
-    ∙ ap (parts_left names a) (ap (target x) (map-append view_of (take i views) (drop i views)) ∙ fold-append called (named x) (map view_of (take i views)) (map view_of (drop i views)))
-    ∙ views_left names a f (map view_of (drop i views)) (target x (map view_of (take i views))) h
 
 -- the array that a tree gave is its view's first argument
 pub first_taken : (names : Names) (a b : Arrays) (e : Tree) (v : ℕ) (given : List Given) → value_of names a e ≡ Ok (b, v) → given ≡ Array v ∷ [] → taken names a (value none e) ≡ Ok (b, arguments given)

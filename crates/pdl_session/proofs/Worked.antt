@@ -1,12 +1,12 @@
 -- What a script of late writes moves.
-use Rattle.std.proofs.Common.{◌≡◌, ℕ, zero, suc, ◌+◌, ◌<◌, ◌≤◌, Bool, true, false, List, [], ◌∷◌, Option, Some, None, Ok, Err, refl, sym, ap, subst, ◌∙◌, arith, eq-eqb}
-use Rattle.std.specs.Prelude.{pos, ◌==◌, if◌then◌else◌, sum_by, IfSome, codes, get_or}
+use Rattle.std.proofs.Common.{◌≡◌, ℕ, zero, suc, ◌+◌, ◌≤◌, true, false, [], ◌∷◌, Option, Some, None, Ok, Err, refl, sym, ap, subst, ◌∙◌, arith, eq-eqb}
+use Rattle.std.specs.Prelude.{pos, ◌==◌, sum_by, IfSome, codes, get_or}
 use Rattle.pdl_lemmas.specs.Tests.{by_test}
 use Rattle.pdl_slices.specs.Meaning.{slice_of, read_on}
 use Rattle.pdl_shape.specs.Shape.{size_of}
 use Rattle.pdl_world.specs.Paths.{path, root_of}
 use Rattle.pdl_world.specs.Sound.{IsLive}
-use Rattle.pdl_world.specs.World.{World, dims_in, has_repeats, places_in}
+use Rattle.pdl_world.specs.World.{dims_in, has_repeats, places_in}
 use Rattle.pdl_engine.specs.Reading.{IsWarm, read_steps}
 use Rattle.pdl_engine.specs.State.{State as Engine, AreWaiting, IsLazy, base, is_fresh, outdated, outdated_at, waiting, waiting_size}
 use Rattle.pdl_nodes.specs.Owed.{owed}
@@ -21,7 +21,7 @@ use Rattle.pdl_machine.specs.Tidy.{settled}
 use Rattle.pdl_machine.specs.Watches.{attached}
 use Rattle.pdl_scope.specs.Scope.{Scope, engine_of, machine}
 use Rattle.pdl_session.specs.Bounds.{RunsInPlace}
-use Rattle.pdl_session.specs.Session.{IsKeptWarm, Session}
+use Rattle.pdl_session.specs.Session.{Session}
 use Rattle.pdl_session.specs.WorkedBounds.{Follows, LateWritesMoveLittle, late_writes}
 
 -- the state that is left

@@ -8,9 +8,10 @@ use Rattle.pdl_machine.specs.Arrays.{Arrays}
 use Rattle.pdl_machine.specs.Calls.{call_value}
 use Rattle.pdl_machine.specs.Names.{Names, bound_to, number_of}
 use Rattle.pdl_machine.specs.Outcome.{Given}
-use Rattle.pdl_machine.specs.Step.{Stepped, effect, several_bound, target_in}
+use Rattle.pdl_machine.specs.Step.{effect, several_bound, target_in}
 use Rattle.pdl_machine.specs.Then.{and_then}
 use Rattle.pdl_machine.specs.Value.{Taken, taken, value_of}
+use Rattle.pdl_scope.specs.Costs.{arrays_after}
 use Rattle.pdl_scope.specs.Scope.{Scope, machine}
 
 -- the arrays that a next step leaves after a first one; where that one is refused, those that it
@@ -47,20 +48,19 @@ abbrev mutual
 abbrev pub evaluated : Names → Arrays → Tree → Arrays
 evaluated names a e = came (value_of names a e) (parts_left names a e)
 
+-- and once arguments were
+abbrev pub args_evaluated : Names → Arrays → Args → Arrays
+args_evaluated names a args = came (taken names a args) (args_left names a args)
+
 -- the arrays once both sides of an assignment were, its target first
 abbrev pub sides_evaluated : Scope → (place value : Tree) → Arrays
 sides_evaluated s place e =
     left_then (target_in (machine s) place) (evaluated s.names s.arrays place) (λ b.
     evaluated s.names b e)
 
--- the arrays of a state that a statement leaves; where it is refused, those that were left
-abbrev pub stepped : Stepped → (left : Arrays) → Arrays
-stepped (Ok after) left = after.0.arrays
-stepped (Err e) left = left
-
 -- the arrays once a flow's root came
 abbrev pub flow_came : Scope → (name : List ℕ) → (formula : Tree) → Arrays
-flow_came s x e = stepped (effect [] (machine s) (flow x e)) (evaluated s.names s.arrays e)
+flow_came s x e = arrays_after (effect [] (machine s) (flow x e)) (evaluated s.names s.arrays e)
 
 -- the arrays of a call whose outputs weren't bound: where one name is given, its value came
 abbrev pub unbound : Names → (bound : List (List ℕ)) → (callee : List ℕ) → Arrays × List Given
@@ -81,7 +81,7 @@ list_left s xs _ = s.arrays
 
 -- the arrays once the outputs of a call came
 abbrev pub list_came : Scope → (bound : List (List ℕ)) → Tree → Arrays
-list_came s xs e = stepped (several_bound (machine s) xs e) (list_left s xs e)
+list_came s xs e = arrays_after (several_bound (machine s) xs e) (list_left s xs e)
 
 -- the arguments that give the sizes of a name's array, or that the name is unknown
 abbrev pub sizes_taken : Scope → (name : List ℕ) → Args → Taken

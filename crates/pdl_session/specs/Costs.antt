@@ -11,8 +11,7 @@ use Rattle.pdl_machine.specs.declared.builtin.Inquiry.TheVariants.{Nelem, Ndims,
 use Rattle.pdl_machine.specs.Arrays.{Arrays}
 use Rattle.pdl_machine.specs.Names.{number_of}
 use Rattle.pdl_scope.specs.declared.fault.ScopeFault.{ScopeFault}
-use Rattle.pdl_scope.specs.declared.fault.ScopeFault.TheVariants.{NoMemory}
-use Rattle.pdl_scope.specs.Costs.{total_size}
+use Rattle.pdl_scope.specs.Costs.{MovesUpTo, total_size}
 use Rattle.pdl_scope.specs.Scope.{Scope, engine_of}
 use Rattle.pdl_session.specs.declared.given.Given.{Given}
 use Rattle.pdl_session.specs.declared.given.Given.TheVariants.{Array}
@@ -80,24 +79,16 @@ abbrev mutual
   argued_steps s (of_type front ty) = argued_steps s front
 
 -- It takes at most a step for each element that moves for the arrays that came, and so many besides:
--- these pay also what the answer will take. Where it is refused, the arrays count that were left
--- then. Where memory ran out it says nothing.
+-- these pay also what the answer will take. Where a fault refuses it, the arrays count that came until
+-- then, and where memory ran out those that were to come.
 abbrev pub PaysWithin : {T : Type 0} → (owed : T → ℕ) → (most : ℕ) → (old new : Scope)
-    → (left : Arrays) → (before after : ℕ) → Result T ScopeFault → Type 0
-PaysWithin owed most old new left before after (Ok x) =
+    → (late : Arrays) → (before after : ℕ) → Result T ScopeFault → Type 0
+PaysWithin owed most old new late before after (Ok x) =
     after + owed x + total_size old.arrays.world ≤ before + total_size new.arrays.world + most
-PaysWithin owed most old new left before after (Err NoMemory) = Unit {0}
-PaysWithin owed most old new left before after (Err e) =
-    after + total_size old.arrays.world ≤ before + total_size left.world + most
+PaysWithin owed most old new late before after (Err e) = MovesUpTo most old late before after
 
 -- so of an expression, whose array is to be made ready
-abbrev pub EvaluatesWithin : (most : ℕ) → (old new : Scope) → (left : Arrays)
+abbrev pub EvaluatesWithin : (most : ℕ) → (old new : Scope) → (late : Arrays)
     → (before after : ℕ) → Result ℕ ScopeFault → Type 0
-EvaluatesWithin most old new left before after r =
-    PaysWithin (ready_steps (engine_of new)) most old new left before after r
-
--- and so of what owes nothing
-abbrev pub LeavesWithin : {T : Type 0} → (most : ℕ) → (old new : Scope) → (left : Arrays)
-    → (before after : ℕ) → Result T ScopeFault → Type 0
-LeavesWithin most old new left before after r =
-    PaysWithin (λ x. 0) most old new left before after r
+EvaluatesWithin most old new late before after r =
+    PaysWithin (ready_steps (engine_of new)) most old new late before after r

@@ -1,5 +1,5 @@
 -- How many formulas a statement evaluates at most.
-use Rattle.std.specs.Prelude.{◌≡◌, ℕ, ◌+◌, ◌≤◌, List, [], length, Ok, Err}
+use Rattle.std.specs.Prelude.{◌≡◌, ℕ, ◌+◌, ◌≤◌, [], length, Ok, Err}
 use Rattle.pdl_syntax.specs.StatementTree.{StatementTree, assign, flow}
 use Rattle.pdl_syntax.specs.Tree.{Tree}
 use Rattle.pdl_machine.specs.Flows.{Flows, followers}

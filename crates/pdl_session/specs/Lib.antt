@@ -17,3 +17,4 @@ pub mod Statements
 pub mod Evaluations
 pub mod Flowing
 pub mod MovesLaws
+pub mod Steps

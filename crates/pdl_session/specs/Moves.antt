@@ -1,6 +1,6 @@
 -- What statements move at most.
 use Rattle.std.specs.Option.{option_map_or}
-use Rattle.std.specs.Prelude.{ℕ, ◌+◌, ◌≤◌, List, Result, Ok, Err, sum_by}
+use Rattle.std.specs.Prelude.{ℕ, ◌+◌, List, Result, Ok, Err, sum_by}
 use Rattle.pdl_shape.specs.Shape.{size_of}
 use Rattle.pdl_world.specs.World.{dims_in}
 use Rattle.pdl_engine.specs.Reading.{read_steps}
@@ -14,10 +14,7 @@ use Rattle.pdl_machine.specs.Outcome.{Given, Valued}
 use Rattle.pdl_machine.specs.Step.{target_in}
 use Rattle.pdl_machine.specs.Then.{and_then}
 use Rattle.pdl_machine.specs.Watches.{attached}
-use Rattle.pdl_scope.specs.Costs.{total_size}
 use Rattle.pdl_scope.specs.Scope.{Scope, engine_of, machine}
-use Rattle.pdl_scope.specs.declared.fault.ScopeFault.{ScopeFault}
-use Rattle.pdl_scope.specs.declared.fault.ScopeFault.TheVariants.{NoMemory}
 use Rattle.pdl_session.specs.Costs.{named_steps}
 
 -- the most steps that it takes to cut an array from its parent
@@ -33,14 +30,6 @@ value_size (Err e) = 0
 abbrev pub wanted_size : Result (List ℕ) Fault → ℕ
 wanted_size (Ok ds) = size_of ds
 wanted_size (Err e) = 0
-
--- It takes at most a step for each element that moves for the arrays that came up to these, and so
--- many besides. Where memory ran out it says nothing.
-abbrev pub MovesUpTo : {T : Type 0} → (most : ℕ) → (old : Scope) → (late : Arrays)
-    → (before after : ℕ) → Result T ScopeFault → Type 0
-MovesUpTo most old late before after (Err NoMemory) = Unit {0}
-MovesUpTo most old late before after _ =
-    after + total_size old.arrays.world ≤ before + total_size late.world + most
 
 -- the most steps that it takes to lay a name's array anew
 abbrev pub reshape_steps : Scope → (name : List ℕ) → Result (Arrays × List Given) Fault → ℕ

@@ -17,7 +17,7 @@ KeptViewsCostNothing =
     (to : State) (text : List ℕ) → MovesAtMost present statement old new before after (Ok tt)
     → effect present (machine old) statement ≡ Ok (to, text)
     → KeepsViews to.arrays.world (kept to)
-    → MovesByForm {T = Unit {0}} statement old before after (Ok tt)
+    → MovesByForm statement old before after
 
 -- a print of a bare name whose array is ready, and of its info, moves nothing
 abbrev pub ReadyPrintsMoveNothing : Type 0

@@ -11,6 +11,7 @@ ghost use Rattle.pdl_machine.specs.Value.{number_made};
 ghost use Rattle.pdl_world.specs.Formula.{is_well_formed};
 ghost use Rattle.pdl_scope.specs.Answers.{AnswersAs, Evaluates};
 ghost use Rattle.pdl_session.specs.Bounds.{MakesRoot};
+ghost use Rattle.pdl_session.specs.Came.{came};
 ghost use Rattle.pdl_session.specs.Costs.{read_all, read_by, ready_all, EvaluatesWithin};
 ghost use Rattle.pdl_session.specs.Arguments.{arguments, AreGivenLive, all_seen_of, outcome_of, IsOutcomeMade};
 ghost use Rattle.pdl_scope.specs.Scope.{Grows, OnlyReads};
@@ -46,7 +47,8 @@ pub fn number_array<L: Ledger>(
     ensures grown { Grows scope.old scope.new }
     ensures root { MakesRoot 1 scope.old scope.new steps.old steps.new result }
     ensures within { let s = scope.old in
-        EvaluatesWithin 0 s scope.new s.arrays steps.old steps.new result }
+        let late = came (new_root s.arrays (number_made number)) s.arrays in
+        EvaluatesWithin 0 s scope.new late steps.old steps.new result }
 {
     cost_laws();
     match dims_of(scope.alloc(), &[]) {
@@ -74,8 +76,9 @@ pub fn call<L: Ledger>(
         Evaluates wanted scope.new result }
     ensures grown { Grows scope.old scope.new }
     ensures within { let s = scope.old in
+        let wanted = call_value s.names name.now s.arrays (arguments given.now) in
         let most = ready_all s given.now in
-        EvaluatesWithin most s scope.new s.arrays steps.old steps.new result }
+        EvaluatesWithin most s scope.new (came wanted s.arrays) steps.old steps.new result }
 {
     match builtin_named(name.bytes()) {
         Some(builtin) => builtin_call(scope, builtin, given, steps),
@@ -151,7 +154,8 @@ fn only_root<L: Ledger>(
     ensures value { Evaluates (only_root scope.old.arrays outputs.now) scope.new result }
     ensures grown { Grows scope.old scope.new }
     ensures within { let s = scope.old in
-        EvaluatesWithin 0 s scope.new s.arrays steps.old steps.new result }
+        let late = came (only_root s.arrays outputs.now) s.arrays in
+        EvaluatesWithin 0 s scope.new late steps.old steps.new result }
 {
     cost_laws();
     match outputs {
@@ -176,8 +180,9 @@ pub fn builtin_call<L: Ledger>(
         Evaluates wanted scope.new result }
     ensures grown { Grows scope.old scope.new }
     ensures within { let s = scope.old in
+        let wanted = builtin_value builtin s.arrays (arguments given.now) in
         let most = ready_all s given.now in
-        EvaluatesWithin most s scope.new s.arrays steps.old steps.new result }
+        EvaluatesWithin most s scope.new (came wanted s.arrays) steps.old steps.new result }
 {
     cost_laws();
     scope.in_order();

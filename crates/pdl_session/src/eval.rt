@@ -8,7 +8,7 @@ ghost use Rattle.pdl_machine.specs.Outcome.{Given as Argument};
 ghost use Rattle.pdl_machine.specs.Value.{value_of, taken};
 ghost use Rattle.pdl_scope.specs.Answers.{AnswersAs, Evaluates};
 ghost use Rattle.pdl_session.specs.Bounds.{EvaluatesPlainly};
-ghost use Rattle.pdl_session.specs.Came.{args_left, parts_left};
+ghost use Rattle.pdl_session.specs.Came.{args_evaluated, evaluated};
 ghost use Rattle.pdl_session.specs.Costs.{argued_steps, given_steps, named_steps, ready_all, EvaluatesWithin, PaysWithin};
 ghost use Rattle.pdl_session.specs.Arguments.{argument, arguments, IsGivenLive, AreGivenLive};
 ghost use Rattle.pdl_scope.specs.Scope.{engine_of, Grows};
@@ -28,8 +28,8 @@ use std::sync::ledger::Ledger;
 /// The array of an expression. New arrays may have come also where it is refused. A name takes no
 /// step, and a number or a list at most one for each element; any expression at most one for each
 /// element that moves for the arrays that come, and what it takes to make the arrays of its names
-/// ready, which pays also for making its own ready. Where it is refused, the arrays count that its
-/// parts left.
+/// ready, which pays also for making its own ready. Where a fault refuses it, the arrays count that
+/// came until then, and where memory ran out those that were to come.
 #[cycle(eval)]
 pub fn eval<L: Ledger>(
     scope: &mut Scope,
@@ -44,8 +44,8 @@ pub fn eval<L: Ledger>(
         EvaluatesPlainly tree scope.old scope.new steps.old steps.new result }
     ensures within { let s = scope.old in
         let tree = tree_of value.now in
-        let left = parts_left s.names s.arrays tree in
-        EvaluatesWithin (named_steps s tree) s scope.new left steps.old steps.new result }
+        let late = evaluated s.names s.arrays tree in
+        EvaluatesWithin (named_steps s tree) s scope.new late steps.old steps.new result }
 {
     calls_are_trees();
     cost_laws();
@@ -106,8 +106,8 @@ pub fn take<'a, L: Ledger>(
         let s = scope.old in
         let most = argued_steps s (args_of args.now none) + ready_all s given.entry.items in
         let owed = λ (all : Vec Given Global). ready_all scope.new all.items in
-        let left = args_left s.names a (args_of args.now front) in
-        PaysWithin owed most s scope.new left steps.old steps.new result }
+        let late = args_evaluated s.names a (args_of args.now front) in
+        PaysWithin owed most s scope.new late steps.old steps.new result }
 {
     cost_laws();
     scope.in_order();
@@ -139,8 +139,8 @@ fn take_one<'a, L: Ledger>(
         let s = scope.old in
         let most = argued_steps s (argument_of arg.now none) in
         let owed = given_steps (ready_steps (engine_of scope.new)) in
-        let left = args_left s.names a (argument_of arg.now front) in
-        PaysWithin owed most s scope.new left steps.old steps.new result }
+        let late = args_evaluated s.names a (argument_of arg.now front) in
+        PaysWithin owed most s scope.new late steps.old steps.new result }
 {
     match arg {
         Arg::Value(value) => Ok(Given::Array(eval(scope, value, steps)?)),

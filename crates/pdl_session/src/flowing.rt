@@ -11,7 +11,7 @@ ghost use Rattle.pdl_scope.specs.Answers.{Runs};
 ghost use Rattle.pdl_scope.specs.Scope.{machine};
 ghost use Rattle.pdl_session.specs.Came.{flow_came};
 ghost use Rattle.pdl_session.specs.Costs.{named_steps};
-ghost use Rattle.pdl_session.specs.Moves.{MovesUpTo};
+ghost use Rattle.pdl_scope.specs.Costs.{MovesUpTo};
 ghost use Rattle.pdl_session.specs.Flowing.{Forms};
 
 use crate::call::number_type;
@@ -42,7 +42,7 @@ pub fn flow<L: Ledger>(
         Runs wanted scope.old scope.new [] [] result }
     ensures within { let most = named_steps scope.old (tree_of value.now) in
         let late = flow_came scope.old name.now (tree_of value.now) in
-        MovesUpTo most scope.old late steps.old steps.new result }
+        MovesUpTo most scope.old late steps.old steps.new }
 {
     cost_laws();
     flow_laws();

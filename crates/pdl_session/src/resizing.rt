@@ -1,5 +1,5 @@
 //! Other dimensions of an array.
-ghost use Rattle.std.specs.Prelude.{◌≡◌, ◌≤◌, ◌+◌, []};
+ghost use Rattle.std.specs.Prelude.{◌≤◌, ◌+◌, []};
 ghost use Rattle.pdl_syntax.specs.StatementTree.{reshape as reshape'};
 ghost use Rattle.pdl_syntax.specs.Tree.{none};
 ghost use Rattle.pdl_syntax.specs.TreeOf.{args_of};
@@ -12,7 +12,8 @@ ghost use Rattle.pdl_machine.specs.Cuts.{dims_given};
 ghost use Rattle.pdl_scope.specs.Scope.{engine_of, machine};
 ghost use Rattle.pdl_session.specs.Costs.{argued_steps, read_all};
 ghost use Rattle.pdl_session.specs.Came.{sizes_came, sizes_taken};
-ghost use Rattle.pdl_session.specs.Moves.{MovesUpTo, reshape_steps, wanted_size};
+ghost use Rattle.pdl_scope.specs.Costs.{MovesUpTo};
+ghost use Rattle.pdl_session.specs.Moves.{reshape_steps, wanted_size};
 ghost use Rattle.pdl_session.specs.Arguments.{arguments, AreGivenLive};
 
 use crate::dims::{dims_for, numbers_in};
@@ -42,7 +43,7 @@ pub fn reshape<L: Ledger>(
         let given = sizes_taken scope.old name.now args in
         let most = argued_steps scope.old args + reshape_steps scope.old name.now given in
         let late = sizes_came scope.old name.now args in
-        MovesUpTo most scope.old late steps.old steps.new result }
+        MovesUpTo most scope.old late steps.old steps.new }
 {
     match scope.number_of(name) {
         Some(id) => {

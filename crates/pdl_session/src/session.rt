@@ -6,18 +6,13 @@ ghost use Rattle.pdl_watch.specs.Slots.{slots_by, present_in, all_ended, EndedSh
 ghost use Rattle.pdl_engine.specs.State.{IsLazy};
 ghost use Rattle.pdl_machine.specs.Dumpable.{IsDumpable};
 ghost use Rattle.pdl_machine.specs.Following.{AreFlows};
-ghost use Rattle.pdl_machine.specs.Step.{step};
 ghost use Rattle.pdl_machine.specs.Tidy.{tidy};
-ghost use Rattle.pdl_scope.specs.Answers.{IfScript, IsFault};
 ghost use Rattle.pdl_scope.specs.Scope.{engine_of, machine, slots_limit};
-ghost use Rattle.pdl_session.specs.Advanced.{HasAdvanced};
-ghost use Rattle.pdl_session.specs.Dumping.{DumpMakesAgain, PrintsDump};
-ghost use Rattle.pdl_session.specs.Evaluations.{RunsAtMost};
-ghost use Rattle.pdl_session.specs.Faults.{IfFaulted, IfWatcher, UnlessWatcher, ending, step_ending};
-ghost use Rattle.pdl_session.specs.Bounds.{LeavesReadable, RunsInPlace, warm_after};
-ghost use Rattle.pdl_session.specs.Statements.{MovesAtMost};
-ghost use Rattle.pdl_session.specs.Session.{no_steps, AssignsAgain, IsAsBefore, IsAtRest, PrintsAtMost};
-ghost use Rattle.pdl_session.specs.Watching.{AreServed, HasDone, HasRun, IsRefusal};
+ghost use Rattle.pdl_session.specs.Advanced.{Advances};
+ghost use Rattle.pdl_session.specs.Dumping.{DumpMakesAgain};
+ghost use Rattle.pdl_session.specs.Session.{no_steps, IsAtRest};
+ghost use Rattle.pdl_session.specs.Steps.{HasStepped, moment};
+ghost use Rattle.pdl_session.specs.Watching.{AreServed};
 
 use crate::fault::{StepFault, WatcherFailed};
 use crate::news::News;
@@ -28,7 +23,7 @@ use pdl_engine::ArrayId;
 use pdl_machine::{dump_law, dumpable_laws, flow_laws, numbering_laws, watching_laws};
 use pdl_rebuild::dumps_rebuild;
 use pdl_reread::dumps_are_reread;
-use pdl_scope::{Scope, ScopeFault};
+use pdl_scope::{Scope, ScopeFault, cost_laws};
 use pdl_syntax::Statement;
 use pdl_watch::{Watcher, slot_laws};
 use pdl_world::{assignment_laws, growth_laws, sweep_laws};
@@ -135,6 +130,7 @@ impl Session {
     /// refused. What any other statement moves is bounded by its form (`bounded`). By `dump` the dump
     /// of the state is printed, which makes the state again (`dumps`).
     ///
+    /// What is so after it is one record (`HasStepped`), by whose fields these sentences are named.
     /// After each statement the root of each flow shows what its formula is (`flows`). `runs`
     /// counts the formulas that are evaluated: by an assignment at most one for each flow that
     /// reads, directly or through flows, an array of the root that it assigns to; by `flow` at most
@@ -151,49 +147,11 @@ impl Session {
         requires made { IsWellMade (statement_of statement.now) }
         requires served { let slots = slots_by (λ b. seen b) watchers.old.items in
             AreServed self.old.state.watches slots }
-        ensures ok { let slots = slots_by (λ b. seen b) watchers.old.items in
-            let tree = statement_of statement.now in
-            let wanted = step number (present_in slots) self.old.state tree in
-            OnOk result (HasDone wanted self.new.state out.old.items out.new.items
-            slots (slots_by (λ b. seen b) watchers.new.items)) }
-        ensures fault { let slots = slots_by (λ b. seen b) watchers.old.items in
-            let tree = statement_of statement.now in
-            let wanted = step number (present_in slots) self.old.state tree in
-            IfErr result (IsRefusal wanted slots (slots_by (λ b. seen b) watchers.new.items)) }
-        ensures ran { let slots = slots_by (λ b. seen b) watchers.old.items in
-            let tree = statement_of statement.now in
-            let wanted = step number (present_in slots) self.old.state tree in
-            IfErr result (λ e. IfWatcher e
-            (HasRun wanted self.new.state out.old.items out.new.items)) }
-        ensures kept { IfErr result (λ e. UnlessWatcher e (self.new.state ≡ self.old.state)) }
-        ensures unprinted { IfErr result (λ e. UnlessWatcher e (out.new.items ≡ out.old.items)) }
-        ensures untold { let slots = slots_by (λ b. seen b) watchers.old.items in
-            let now = slots_by (λ b. seen b) watchers.new.items in
-            IfErr result (λ e. UnlessWatcher e (now ≡ slots)) }
-        ensures served { let slots = slots_by (λ b. seen b) watchers.new.items in
-            OnOk result (AreServed self.new.state.watches slots) }
-        ensures numbered { self.new.done ≡ min (self.old.done + 1) 18446744073709551615 }
-        ensures warm { OnOk result
-            (self.new.warm ≡ warm_after self.old.scope (statement_of statement.now)) }
-        ensures warm_kept { IfErr result (λ e. UnlessWatcher e (self.new.warm ≡ self.old.warm)) }
-        ensures scope_kept { IfErr result (λ e. UnlessWatcher e
-            (IsAsBefore self.old.scope self.new.scope)) }
-        ensures flows { AreFlows self.new.state.arrays self.new.state.flows }
-        ensures flowing { let tree = statement_of statement.now in
-            RunsAtMost self.old.scope tree runs.old runs.new }
-        ensures unrun { IfErr result (λ e. IfFaulted e (runs.new ≡ runs.old)) }
-        ensures bounded { let present = present_in (slots_by (λ b. seen b) watchers.old.items) in
-            MovesAtMost present (statement_of statement.now) self.old.scope self.new.scope
-            steps.old steps.new (step_ending result) }
-        ensures again { AssignsAgain self.old (statement_of statement.now) steps.old steps.new }
-        ensures shown { PrintsAtMost self.old (statement_of statement.now) steps.old steps.new }
-        ensures readable { OnOk result
-            (LeavesReadable (statement_of statement.now) self.old.scope self.new.scope) }
-        ensures in_place { let present = present_in (slots_by (λ b. seen b) watchers.old.items) in
-            OnOk result (RunsInPlace present self.old.scope (statement_of statement.now)
-            self.new.scope) }
-        ensures dumps { OnOk result (PrintsDump self.old.state (statement_of statement.now)
-            out.old.items out.new.items) }
+        ensures { let before = slots_by (λ b. seen b) watchers.old.items in
+            let after = slots_by (λ b. seen b) watchers.new.items in
+            let old = moment self.old out.old.items before steps.old runs.old in
+            let new = moment self.new out.new.items after steps.new runs.new in
+            HasStepped number (statement_of statement.now) old new result }
     {
         self.step_over(statement, number, out, watchers, steps, runs)
     }
@@ -210,48 +168,11 @@ impl Session {
     ) -> Result<(), StepFault>
         requires made { IsWellMade (statement_of statement.now) }
         requires served { AreServed self.old.state.watches (slots_by W.seen watchers.old.items) }
-        ensures ok { let slots = slots_by W.seen watchers.old.items in
-            let tree = statement_of statement.now in
-            let wanted = step number (present_in slots) self.old.state tree in
-            OnOk result (HasDone wanted self.new.state out.old.items out.new.items
-            slots (slots_by W.seen watchers.new.items)) }
-        ensures fault { let slots = slots_by W.seen watchers.old.items in
-            let tree = statement_of statement.now in
-            let wanted = step number (present_in slots) self.old.state tree in
-            IfErr result (IsRefusal wanted slots (slots_by W.seen watchers.new.items)) }
-        ensures ran { let slots = slots_by W.seen watchers.old.items in
-            let tree = statement_of statement.now in
-            let wanted = step number (present_in slots) self.old.state tree in
-            IfErr result (λ e. IfWatcher e
-            (HasRun wanted self.new.state out.old.items out.new.items)) }
-        ensures kept { IfErr result (λ e. UnlessWatcher e (self.new.state ≡ self.old.state)) }
-        ensures unprinted { IfErr result (λ e. UnlessWatcher e (out.new.items ≡ out.old.items)) }
-        ensures untold { let slots = slots_by W.seen watchers.old.items in
-            IfErr result (λ e. UnlessWatcher e (slots_by W.seen watchers.new.items ≡ slots)) }
-        ensures served { let slots = slots_by W.seen watchers.new.items in
-            OnOk result (AreServed self.new.state.watches slots) }
-        ensures numbered { self.new.done ≡ min (self.old.done + 1) 18446744073709551615 }
-        ensures warm { OnOk result
-            (self.new.warm ≡ warm_after self.old.scope (statement_of statement.now)) }
-        ensures warm_kept { IfErr result (λ e. UnlessWatcher e (self.new.warm ≡ self.old.warm)) }
-        ensures scope_kept { IfErr result (λ e. UnlessWatcher e
-            (IsAsBefore self.old.scope self.new.scope)) }
-        ensures flows { AreFlows self.new.state.arrays self.new.state.flows }
-        ensures flowing { let tree = statement_of statement.now in
-            RunsAtMost self.old.scope tree runs.old runs.new }
-        ensures unrun { IfErr result (λ e. IfFaulted e (runs.new ≡ runs.old)) }
-        ensures bounded { let present = present_in (slots_by W.seen watchers.old.items) in
-            MovesAtMost present (statement_of statement.now) self.old.scope self.new.scope
-            steps.old steps.new (step_ending result) }
-        ensures again { AssignsAgain self.old (statement_of statement.now) steps.old steps.new }
-        ensures shown { PrintsAtMost self.old (statement_of statement.now) steps.old steps.new }
-        ensures readable { OnOk result
-            (LeavesReadable (statement_of statement.now) self.old.scope self.new.scope) }
-        ensures in_place { let present = present_in (slots_by W.seen watchers.old.items) in
-            OnOk result (RunsInPlace present self.old.scope (statement_of statement.now)
-            self.new.scope) }
-        ensures dumps { OnOk result (PrintsDump self.old.state (statement_of statement.now)
-            out.old.items out.new.items) }
+        ensures { let before = slots_by W.seen watchers.old.items in
+            let after = slots_by W.seen watchers.new.items in
+            let old = moment self.old out.old.items before steps.old runs.old in
+            let new = moment self.new out.new.items after steps.new runs.new in
+            HasStepped number (statement_of statement.now) old new result }
     {
         dump_law();
         slot_laws();
@@ -279,33 +200,10 @@ impl Session {
     ) -> Result<News, ScopeFault>
         requires made { IsWellMade (statement_of statement.now) }
         requires few { length watchers.now.items ≤ slots_limit }
-        ensures ok { let present = present_in (slots_by W.seen watchers.now.items) in
-            IfOk result (HasAdvanced number present self.old.state self.new.state
-            (statement_of statement.now) out.old.items out.new.items) }
-        ensures fault { let present = present_in (slots_by W.seen watchers.now.items) in
-            let wanted = step number present self.old.state (statement_of statement.now) in
-            IfErr result (IsFault wanted) }
-        ensures kept { OnErr result (self.new.state ≡ self.old.state) }
-        ensures unprinted { OnErr result (out.new.items ≡ out.old.items) }
-        ensures numbered { self.new.done ≡ min (self.old.done + 1) 18446744073709551615 }
-        ensures warm { OnOk result
-            (self.new.warm ≡ warm_after self.old.scope (statement_of statement.now)) }
-        ensures warm_kept { OnErr result (self.new.warm ≡ self.old.warm) }
-        ensures scope_kept { OnErr result (IsAsBefore self.old.scope self.new.scope) }
-        ensures flows { AreFlows self.new.state.arrays self.new.state.flows }
-        ensures flowing { let tree = statement_of statement.now in
-            RunsAtMost self.old.scope tree runs.old runs.new }
-        ensures unrun { IfScript result (runs.new ≡ runs.old) }
-        ensures bounded { let present = present_in (slots_by W.seen watchers.now.items) in
-            MovesAtMost present (statement_of statement.now) self.old.scope self.new.scope
-            steps.old steps.new (ending result) }
-        ensures again { AssignsAgain self.old (statement_of statement.now) steps.old steps.new }
-        ensures shown { PrintsAtMost self.old (statement_of statement.now) steps.old steps.new }
-        ensures readable { OnOk result
-            (LeavesReadable (statement_of statement.now) self.old.scope self.new.scope) }
-        ensures in_place { let present = present_in (slots_by W.seen watchers.now.items) in
-            OnOk result (RunsInPlace present self.old.scope (statement_of statement.now)
-            self.new.scope) }
+        ensures { let slots = slots_by W.seen watchers.now.items in
+            let old = moment self.old out.old.items slots steps.old runs.old in
+            let new = moment self.new out.new.items slots steps.new runs.new in
+            Advances number (statement_of statement.now) old new result }
     {
         numbering_laws();
         dumpable_laws();
@@ -314,13 +212,13 @@ impl Session {
         assignment_laws();
         sweep_laws();
         flow_laws();
+        cost_laws();
         self.calls = self.calls.saturating_add(1);
-        self.scope.whole();
+        self.scope.in_order();
         let assigned = bare_target(&self.scope, statement);
         let scope = &mut self.scope;
         let ran = run(scope, statement, number, watchers, out, steps, runs);
-        self.scope.whole();
-        self.scope.lazy_law();
+        self.scope.in_order();
         self.scope.let_go(steps);
         self.scope.whole();
         self.warm = warm_then(&ran, assigned, self.warm);

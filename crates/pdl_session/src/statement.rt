@@ -12,9 +12,10 @@ ghost use Rattle.pdl_machine.specs.Watches.{notices};
 ghost use Rattle.pdl_print.specs.Pieces.{Begins};
 ghost use Rattle.pdl_watch.specs.Slots.{lists_of, present_in, slots_by};
 ghost use Rattle.pdl_scope.specs.Answers.{IfScript, Runs};
+ghost use Rattle.pdl_scope.specs.Costs.{arrays_after, MovesUpTo};
 ghost use Rattle.pdl_session.specs.Came.{evaluated, list_came, sides_evaluated, unbound};
-ghost use Rattle.pdl_session.specs.Costs.{named_steps, ready_all, LeavesWithin};
-ghost use Rattle.pdl_session.specs.Moves.{MovesUpTo, assign_steps, cut_steps, value_size};
+ghost use Rattle.pdl_session.specs.Costs.{named_steps, ready_all};
+ghost use Rattle.pdl_session.specs.Moves.{assign_steps, cut_steps, value_size};
 ghost use Rattle.pdl_scope.specs.Scope.{engine_of, machine, slots_limit};
 ghost use Rattle.pdl_session.specs.News.{IsNewsOf};
 ghost use Rattle.pdl_session.specs.declared.news.News.TheVariants.{Nothing};
@@ -59,7 +60,7 @@ fn bind_value<L: Ledger>(
     ensures within { let s = scope.old in
         let tree = tree_of value.now in
         let late = evaluated s.names s.arrays tree in
-        MovesUpTo (named_steps s tree) s late steps.old steps.new result }
+        MovesUpTo (named_steps s tree) s late steps.old steps.new }
 {
     let id = eval(scope, value, steps)?;
     scope.bind(name, id)
@@ -81,7 +82,7 @@ fn bind_severed<L: Ledger>(
         let tree = tree_of value.now in
         let most = named_steps s tree + value_size (value_of s.names s.arrays tree) in
         let late = evaluated s.names s.arrays tree in
-        MovesUpTo most s late steps.old steps.new result }
+        MovesUpTo most s late steps.old steps.new }
 {
     let id = eval(scope, value, steps)?;
     scope.bind_severed(name, id, steps)
@@ -116,9 +117,10 @@ fn bind_outputs<L: Ledger>(
         let wanted = list_bound (machine scope.old) bound.now function.now (scope.old.arrays, args) in
         Runs wanted scope.old scope.new [] [] result }
     ensures within { let s = scope.old in
-        let most = ready_all s given.now in
-        let left = unbound s.names bound.now function.now (s.arrays, arguments given.now) in
-        LeavesWithin most s scope.new left steps.old steps.new result }
+        let args = arguments given.now in
+        let wanted = list_bound (machine s) bound.now function.now (s.arrays, args) in
+        let left = unbound s.names bound.now function.now (s.arrays, args) in
+        MovesUpTo (ready_all s given.now) s (arrays_after wanted left) steps.old steps.new }
 {
     if bound.len() != 1 {
         let outputs = several(scope, function, bound.len(), given, steps)?;
@@ -141,7 +143,7 @@ fn bind_list<L: Ledger>(
         Runs wanted scope.old scope.new [] [] result }
     ensures within { let most = named_steps scope.old (tree_of value.now) in
         let late = list_came scope.old bound.now (tree_of value.now) in
-        MovesUpTo most scope.old late steps.old steps.new result }
+        MovesUpTo most scope.old late steps.old steps.new }
 {
     calls_are_trees();
     match value {
@@ -177,7 +179,7 @@ fn assign_value<L: Ledger, M: Ledger>(
         let most = assign_steps scope.old place (tree_of value.now) in
         let late = sides_evaluated scope.old place (tree_of value.now) in
         followers_in scope.old place ≡ [] →
-        MovesUpTo most scope.old late steps.old steps.new result }
+        MovesUpTo most scope.old late steps.old steps.new }
     ensures flowing { let place = map view_of to.now.views.items in
         let statement = assign to.now.name place sign (tree_of value.now) in
         RunsAtMost scope.old statement runs.old runs.new }
@@ -215,7 +217,7 @@ fn show<L: Ledger>(
     ensures within { let s = scope.old in
         let tree = tree_of value.now in
         let late = evaluated s.names s.arrays tree in
-        MovesUpTo (named_steps s tree) s late steps.old steps.new result }
+        MovesUpTo (named_steps s tree) s late steps.old steps.new }
     ensures performs { let valued = value_of scope.old.names scope.old.arrays (tree_of value.now) in
         let wanted = and_then valued (λ v. Ok (after_printing (machine scope.old) info v)) in
         Performs wanted scope.old scope.new out.old.items out.new.items result }
@@ -271,7 +273,7 @@ pub fn run<W: Watcher, L: Ledger, M: Ledger>(
         let told = notices number w scope.new.arrays.world scope.new.watches in
         IfOk result (IsNewsOf (statement_of statement.now) told) }
     ensures bounded { let tree = statement_of statement.now in
-        MovesByForm tree scope.old steps.old steps.new result }
+        MovesByForm tree scope.old steps.old steps.new }
     ensures flowing { RunsAtMost scope.old (statement_of statement.now) runs.old runs.new }
     ensures unrun { IfScript result (runs.new ≡ runs.old) }
     ensures moves { let statement = statement_of statement.now in
@@ -315,7 +317,7 @@ fn perform<W: Watcher, L: Ledger, M: Ledger>(
         let told = notices number w scope.new.arrays.world scope.new.watches in
         OnOk result (IsNewsOf (statement_of statement.now) told news.new) }
     ensures bounded { let tree = statement_of statement.now in
-        MovesByForm tree scope.old steps.old steps.new result }
+        MovesByForm tree scope.old steps.old steps.new }
     ensures flowing { RunsAtMost scope.old (statement_of statement.now) runs.old runs.new }
     ensures unrun { IfScript result (runs.new ≡ runs.old) }
     ensures moves { let statement = statement_of statement.now in

@@ -13,7 +13,7 @@ ghost use Rattle.pdl_scope.specs.Answers.{Evaluates};
 ghost use Rattle.pdl_engine.specs.State.{ready_steps};
 ghost use Rattle.pdl_scope.specs.Scope.{engine_of, machine, Grows};
 ghost use Rattle.pdl_session.specs.Bounds.{IsBare};
-ghost use Rattle.pdl_session.specs.Came.{evaluated, parts_left};
+ghost use Rattle.pdl_session.specs.Came.{evaluated};
 ghost use Rattle.pdl_session.specs.Costs.{argued_steps, named_steps, EvaluatesWithin};
 
 use crate::call::call;
@@ -41,8 +41,8 @@ pub fn assigned_to<L: Ledger>(
     ensures grown { Grows scope.old scope.new }
     ensures within { let s = scope.old in
         let tree = target' to.now.name (map view_of to.now.views.items) in
-        let left = evaluated s.names s.arrays tree in
-        EvaluatesWithin (named_steps s tree) s scope.new left steps.old steps.new result }
+        let late = evaluated s.names s.arrays tree in
+        EvaluatesWithin (named_steps s tree) s scope.new late steps.old steps.new result }
     ensures bare { to.now.views.items ≡ [] →
         IsBare to.now.name scope.old scope.new steps.old steps.new result }
 {
@@ -67,8 +67,8 @@ fn target<L: Ledger>(
     ensures grown { Grows scope.old scope.new }
     ensures within { let s = scope.old in
         let tree = target' target.now.name (map view_of target.now.views.items) in
-        let left = parts_left s.names s.arrays tree in
-        EvaluatesWithin (named_steps s tree) s scope.new left steps.old steps.new result }
+        let late = evaluated s.names s.arrays tree in
+        EvaluatesWithin (named_steps s tree) s scope.new late steps.old steps.new result }
     ensures bare { target.now.views.items ≡ [] →
         IsBare target.now.name scope.old scope.new steps.old steps.new result }
 {
@@ -106,8 +106,8 @@ fn call_on<L: Ledger>(
         let s = scope.old in
         let most = argued_steps s (view_of view.now).1 + ready_steps (engine_of s) id in
         let called = call view.now.method (behind of (view_of view.now).1) in
-        let left = parts_left s.names a called in
-        EvaluatesWithin most s scope.new left steps.old steps.new result }
+        let late = evaluated s.names a called in
+        EvaluatesWithin most s scope.new late steps.old steps.new result }
 {
     let first = Vec::from_array(scope.alloc(), [Given::Array(id)])?;
     let given = take(scope, first, &view.args, steps)?;

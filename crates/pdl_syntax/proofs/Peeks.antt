@@ -8,14 +8,32 @@ use Rattle.pdl_lexemes.specs.declared.WordKind.{WordKind}
 use Rattle.pdl_lexemes.specs.declared.WordKind.TheVariants.{OfType}
 use Rattle.pdl_lexemes.specs.contracts.LexemePartialEq.TheImpl as lexeme
 use Rattle.pdl_lexemes.specs.declared.Lexeme.{Lexeme}
-use Rattle.pdl_lexemes.specs.declared.Lexeme.TheVariants.{Word, Quoted, Open, Arrow, Operator}
+use Rattle.pdl_lexemes.specs.declared.Lexeme.TheVariants.{Name, Keyword, Word, Number, Quoted, Open, Close, OpenSquare, CloseSquare, Comma, Equals, Arrow, FatArrow, Assign, Operator, Prefix, Unknown}
 use Rattle.pdl_lemmas.specs.Options.{some_inj, none_some, then_elim}
 use Rattle.pdl_lexemes.specs.Peeks.{Read, after, method_at, quoted_at, type_at, type_step, word_at}
 use Rattle.pdl_syntax.specs.ExpressionReading.{operator_at, level_between}
 use Rattle.pdl_lexemes.specs.Levels.{level_of}
 
+-- (each pair of cases by a clause: a search would try all its rules at each of them)
 same_is : (a b : Lexeme) → lexeme.ghosts.eq a b ≡ true → b ≡ a
-same_is a b e = search rules
+same_is (Name s) (Name t) e = search rules
+same_is (Keyword k) (Keyword l) e = search rules
+same_is (Word k s) (Word l t) e = search rules
+same_is (Number m) (Number n) e = search rules
+same_is (Quoted s) (Quoted t) e = search rules
+same_is Open Open e = refl
+same_is Close Close e = refl
+same_is OpenSquare OpenSquare e = refl
+same_is CloseSquare CloseSquare e = refl
+same_is Comma Comma e = refl
+same_is Equals Equals e = refl
+same_is Arrow Arrow e = refl
+same_is FatArrow FatArrow e = refl
+same_is (Assign p) (Assign q) e = search rules
+same_is (Operator p) (Operator q) e = search rules
+same_is (Prefix p) (Prefix q) e = search rules
+same_is Unknown Unknown e = refl
+same_is _ _ e = absurd (true≢false (sym e))
 
 -- what follows a lexeme stands behind it
 pub after_is : (sign : Lexeme) (ts : List Lexeme) {us : List Lexeme} → after sign ts ≡ Some us → ts ≡ sign ∷ us

@@ -1,6 +1,6 @@
 //! The reader of expressions: a recursive descent over the lexemes.
 
-ghost use Rattle.std.specs.Prelude.{◌≡◌, ◌≤◌, ◌<◌, suc, length, option_map};
+ghost use Rattle.std.specs.Prelude.{◌≡◌, ◌≤◌, ◌<◌, suc, length, option_map, IfSome};
 ghost use Rattle.pdl_syntax.specs.Tree.{none};
 ghost use Rattle.pdl_syntax.specs.Readers.{reads, with_tree, with_args};
 ghost use Rattle.pdl_syntax.specs.TreeOf.{tree_of, args_of};
@@ -31,7 +31,36 @@ impl<'s> Reader<'s> {
             fuel: self.fuel - 1,
             ..*self
         };
-        inner.level_expr(7, tokens)
+        match inner.alone(tokens) {
+            Some(value) => value,
+            None => inner.level_expr(7, tokens),
+        }
+    }
+
+    // The value that a number or a name at the end is, which is all of the expression: no operator
+    // and no method is looked for.
+    #[tactic(auto, unfolding(crate::specs::ExpressionReading::level_at, crate::specs::ExpressionReading::unary_at, crate::specs::ExpressionReading::postfix_at, crate::specs::ExpressionReading::primary_at, crate::specs::ExpressionReading::methods_at, crate::specs::ExpressionReading::chain_at))]
+    fn alone<'a>(&self, tokens: &Lexemes<'a>) -> Option<Read<'a, Expr>>
+        ensures read { IfSome result
+            (λ r. Gives with_tree r (reads level_at self.now 7 tokens.now)) }
+    {
+        match tokens.split_first() {
+            Some((Lexeme::Number(n), rest)) => match rest.split_first() {
+                None => match pdl_lexemes::signed(n) {
+                    Some(z) => Some(Ok((Expr::Number(z), rest))),
+                    None => Some(Err(Refusal::Refused)),
+                },
+                Some(_) => None,
+            },
+            Some((Lexeme::Name(span), rest)) => match rest.split_first() {
+                None => match self.named_expr(span) {
+                    Ok(value) => Some(Ok((value, rest))),
+                    Err(refusal) => Some(Err(refusal)),
+                },
+                Some(_) => None,
+            },
+            _ => None,
+        }
     }
 
     #[cycle(parser)]

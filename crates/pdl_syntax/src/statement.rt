@@ -1,17 +1,17 @@
 //! The reader of statements.
 
-ghost use Rattle.std.specs.Prelude.{◌≡◌, ◌∷◌, option_map, IfOk, IfErr};
-ghost use Rattle.pdl_lexemes.specs.Peeks.{slot_at};
+ghost use Rattle.std.specs.Prelude.{◌≡◌, ◌∷◌, map, option_map, IfOk, IfErr, None};
+ghost use Rattle.pdl_lexemes.specs.Peeks.{after, slot_at};
 ghost use Rattle.pdl_lexemes.specs.ReadAnswers.{Gives};
 ghost use Rattle.pdl_syntax.specs.Readers.{reads, text_at, with_tree};
 ghost use Rattle.pdl_syntax.specs.StatementReading.{expression_to_end_at, behind_at, valued_at, called_at, bind_at, bind_list_at, binding_at, assignment_at, reshape_at, sever_at, statement_of_name_at, value_at, show_at, flow_at, flow_value_at, undef_at, watch_at, define_at, signature_at, code_at, texts_at, statement_at, at_end};
-ghost use Rattle.pdl_syntax.specs.StatementTree.{statement_of, dump, vars, unwatch};
+ghost use Rattle.pdl_syntax.specs.StatementTree.{assign, statement_of, view_of, dump, vars, unwatch};
 ghost use Rattle.pdl_syntax.specs.TreeOf.{tree_of};
 
 use crate::formula::is_formula;
 use crate::reader::Reader;
-use crate::tree::{Expr, Statement, Target};
-use pdl_lexemes::{Keyword, Lexeme, Lexemes, Refusal, Span, WordKind};
+use crate::tree::{Expr, Statement, Target, ViewCall};
+use pdl_lexemes::{AssignOp, Keyword, Lexeme, Lexemes, Refusal, Span, WordKind};
 
 impl<'s> Reader<'s> {
     /// The statement that all lexemes spell.
@@ -142,15 +142,27 @@ impl<'s> Reader<'s> {
         self.bind(name, &rest)
     }
 
-    // A statement that begins with a name.
-    #[tactic(auto, unfolding(crate::specs::StatementReading::statement_of_name_at))]
+    // A statement that begins with a name. What follows the name says of which form it is.
+    #[tactic(auto, unfolding(crate::specs::StatementReading::statement_of_name_at, crate::specs::StatementReading::assignment_at, crate::specs::StatementReading::views_at))]
     fn statement_of_name(&self, name: Span, tokens: &Lexemes<'_>) -> Result<Statement, Refusal>
         ensures read { Gives statement_of result
             (reads statement_of_name_at self.now (text_at self.now name) tokens.now) }
     {
-        if let Some(rest) = tokens.after(Lexeme::Equals) {
-            return self.bind(name, &rest);
+        match tokens.split_first() {
+            Some((Lexeme::Equals, rest)) => self.bind(name, &rest),
+            Some((Lexeme::Assign(op), rest)) => self.assign(name, Vec::new(self.alloc), op, &rest),
+            Some((Lexeme::Arrow, _)) => self.statement_of_arrow(name, tokens),
+            _ => Err(Refusal::Refused),
         }
+    }
+
+    // A statement that begins with a name, behind which an arrow stands.
+    #[tactic(auto, unfolding(crate::specs::StatementReading::statement_of_name_at))]
+    fn statement_of_arrow(&self, name: Span, tokens: &Lexemes<'_>) -> Result<Statement, Refusal>
+        requires { after Lexeme.Equals tokens.now ≡ None }
+        ensures read { Gives statement_of result
+            (reads statement_of_name_at self.now (text_at self.now name) tokens.now) }
+    {
         if let Some(rest) = tokens.after_keyword(Keyword::Sever) {
             return self.sever(name, &rest);
         }
@@ -187,7 +199,22 @@ impl<'s> Reader<'s> {
     {
         let (views, rest) = self.views(tokens)?;
         let (op, rest) = rest.assign().ok_or(Refusal::Refused)?;
-        let value = self.expression_to_end(&rest)?;
+        self.assign(name, views, op, &rest)
+    }
+
+    // An assignment by this sign to the last of these views of a name, from its value on.
+    fn assign(
+        &self,
+        name: Span,
+        views: Vec<ViewCall>,
+        op: AssignOp,
+        tokens: &Lexemes<'_>,
+    ) -> Result<Statement, Refusal>
+        ensures read { let to = map view_of views.items in
+            Gives statement_of result (option_map (assign (text_at self.now name) to op)
+            (reads expression_to_end_at self.now tokens.now)) }
+    {
+        let value = self.expression_to_end(tokens)?;
         let name = self.name_of(name)?;
         let target = Target { name, views };
         Ok(Statement::Assign { target, op, value })

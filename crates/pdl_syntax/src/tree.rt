@@ -6,7 +6,7 @@ use pdl_lexemes::AssignOp;
 
 /// An argument of a call.
 #[cycle(expr)]
-#[derive(Debug, Drop)]
+#[derive(Drop)]
 pub enum Arg {
     Value(Expr),
     /// A string, without its quotes.
@@ -17,7 +17,7 @@ pub enum Arg {
 
 /// A value's expression. A method call `e->f(a)` is `Call(f, [e, a])`.
 #[cycle(expr)]
-#[derive(Debug, Drop)]
+#[derive(Drop)]
 pub enum Expr {
     /// From 0 to 9223372036854775807.
     Number(i64),
@@ -32,21 +32,21 @@ pub enum Expr {
 }
 
 /// A view word of a target, with its arguments.
-#[derive(Debug, Drop)]
+#[derive(Drop)]
 pub struct ViewCall {
     pub method: Name,
     pub args: Vec<Arg>,
 }
 
 /// What an assignment writes to: a name, and the views on it in order.
-#[derive(Debug, Drop)]
+#[derive(Drop)]
 pub struct Target {
     pub name: Name,
     pub views: Vec<ViewCall>,
 }
 
 /// A statement. Names have their `$`.
-#[derive(Debug, Drop)]
+#[derive(Drop)]
 pub enum Statement {
     /// `$x = e`, or `$x = e->sever`.
     Bind {

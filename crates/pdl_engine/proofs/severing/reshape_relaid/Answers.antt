@@ -7,9 +7,10 @@ use Rattle.pdl_world.specs.Cut.{fitted}
 use Rattle.pdl_world.specs.World.{elements}
 use Rattle.pdl_pull.specs.Outdated.{outdated}
 use Rattle.pdl_nodes.specs.Outcomes.{waiting_of, waiting_size}
+use Rattle.pdl_nodes.specs.Below.{AreBelow}
 use Rattle.pdl_nodes.specs.Renewed.{CanRenew}
 use Rattle.pdl_nodes.specs.Worlds.{world_of}
-use Rattle.pdl_engine.proofs.Readied.{ready_then, IsFreshly, others_on, settled_on, only_ready, freshly, ready_steps, ready_fresh, below_ready}
+use Rattle.pdl_engine.proofs.Readied.{ready_then, IsFreshly, others_on, settled_on, only_ready, freshly, ready_steps, ready_fresh}
 use Rattle.pdl_engine.proofs.Renews.{RenewFacts, can_reshape, was_renewed, reshaped_world, renewed_bases, renewed_fresh, renewed_settled, reshape_steps}
 use Rattle.pdl_engine.proofs.Tight.{listed_alike}
 use Rattle.pdl_engine.proofs.severing.reshape_relaid.Goals as goal
@@ -18,8 +19,15 @@ pub returns-in_err-refresh-clause-reshaped : goal.returns-in_err-refresh-clause-
 returns-in_err-refresh-clause-reshaped g c = only_ready c.row_laws.ensures c.args.table.now c.refresh.new.table c.args.id c.requires.order c.requires.sized (ready_then c.row_laws.ensures c.args.table.now c.settle.new.table c.refresh.new.table c.settle.ensures.settled.ready c.refresh.ensures.kept)
     (others_on c.args.table.now c.settle.new.table c.refresh.new.table c.args.id c.settle.ensures.settled c.refresh.ensures.kept)
 
+pub returns-in_err-below-clause-reshaped : goal.returns-in_err-below-clause-reshaped
+returns-in_err-below-clause-reshaped g c = only_ready c.row_laws.ensures c.args.table.now c.refresh.new.table c.args.id c.requires.order c.requires.sized (ready_then c.row_laws.ensures c.args.table.now c.settle.new.table c.refresh.new.table c.settle.ensures.settled.ready c.refresh.ensures.kept)
+    (others_on c.args.table.now c.settle.new.table c.refresh.new.table c.args.id c.settle.ensures.settled c.refresh.ensures.kept)
+
 pub returns-in_err-refresh-clause-stay : goal.returns-in_err-refresh-clause-stay
 returns-in_err-refresh-clause-stay g c = on_err c.from_residual.result (ready_fresh c.args.table.now c.refresh.new.table (ready_then c.row_laws.ensures c.args.table.now c.settle.new.table c.refresh.new.table c.settle.ensures.settled.ready c.refresh.ensures.kept))
+
+pub returns-in_err-below-clause-stay : goal.returns-in_err-below-clause-stay
+returns-in_err-below-clause-stay g c = on_err c.from_residual-in_err-below.result (ready_fresh c.args.table.now c.refresh.new.table (ready_then c.row_laws.ensures c.args.table.now c.settle.new.table c.refresh.new.table c.settle.ensures.settled.ready c.refresh.ensures.kept))
 
 pub returns-in_err-refresh-clause-counted : goal.returns-in_err-refresh-clause-counted
 returns-in_err-refresh-clause-counted g c =
@@ -27,8 +35,20 @@ returns-in_err-refresh-clause-counted g c =
     ready_steps c.row_laws.ensures c.args.table.now c.settle.new.table c.args.id c.settle.new.steps c.refresh.new.steps c.args.steps.now c.settle.ensures.settled c.settle.ensures.counted c.refresh.ensures.counted in
     omega (arith, l)
 
+pub returns-in_err-below-clause-counted : goal.returns-in_err-below-clause-counted
+returns-in_err-below-clause-counted g c =
+    let l : c.refresh.new.steps ≤ c.args.steps.now + (outdated c.args.table.now c.args.id + waiting_size c.args.table.now (waiting_of c.args.table.now c.args.id)) =
+    ready_steps c.row_laws.ensures c.args.table.now c.settle.new.table c.args.id c.settle.new.steps c.refresh.new.steps c.args.steps.now c.settle.ensures.settled c.settle.ensures.counted c.refresh.ensures.counted in
+    omega (arith, l)
+
 pub copied_and_listed-requires-clause-fresh : goal.copied_and_listed-requires-clause-fresh
 copied_and_listed-requires-clause-fresh g c = c.row_laws.ensures.seen.path_first c.refresh.new.table c.args.id c.refresh.ensures.kept.order.still (c.refresh.ensures.kept.alike.has_is c.args.id ∙ c.settle.ensures.settled.ready.alike.has_is c.args.id ∙ c.requires.live) c.in_ok-refresh.ensures.fresh
+
+pub below-requires : goal.below-requires
+below-requires g c = c.refresh.ensures.kept.order.still
+
+pub renew-requires-clause-below : goal.renew-requires-clause-below
+renew-requires-clause-below g c = subst (AreBelow c.refresh.new.table c.args.id) (sym c.deref.ensures.value) c.in_ok-below.ensures
 
 pub returns-in_err-kept-clause-reshaped : goal.returns-in_err-kept-clause-reshaped
 returns-in_err-kept-clause-reshaped g c = only_ready c.row_laws.ensures c.args.table.now c.refresh.new.table c.args.id c.requires.order c.requires.sized (ready_then c.row_laws.ensures c.args.table.now c.settle.new.table c.refresh.new.table c.settle.ensures.settled.ready c.refresh.ensures.kept)
@@ -106,6 +126,9 @@ returns-clause-counted g c =
 pub returns-in_err-refresh-clause-settled : goal.returns-in_err-refresh-clause-settled
 returns-in_err-refresh-clause-settled g c = settled_on c.args.table.now c.settle.new.table c.refresh.new.table c.args.id c.settle.ensures.settled c.refresh.ensures.kept
 
+pub returns-in_err-below-clause-settled : goal.returns-in_err-below-clause-settled
+returns-in_err-below-clause-settled g c = settled_on c.args.table.now c.settle.new.table c.refresh.new.table c.args.id c.settle.ensures.settled c.refresh.ensures.kept
+
 pub returns-in_err-kept-clause-settled : goal.returns-in_err-kept-clause-settled
 returns-in_err-kept-clause-settled g c = settled_on c.args.table.now c.settle.new.table c.refresh.new.table c.args.id c.settle.ensures.settled c.refresh.ensures.kept
 
@@ -180,9 +203,6 @@ renew-requires-clause-can g c =
     ap (λ (k : TypedElements). k.elems) c.in_ok-kept.ensures.value ∙ ap (λ n. fitted n (elements (world_of c.refresh.new.table) c.args.id)) c.elements_of-count.ensures.count in
     let can : CanRenew c.args.layouts c.refresh.new.table c.args.id c.args.dims.now c.in_ok-kept.kept.elems = can_reshape laws c.args.layouts c.args.table.now c.refresh.new.table c.args.id c.args.dims.now c.in_ok-kept.kept.elems f c.requires.relaid c.dims_list-limits.ensures.limits es in
     can
-
-pub renew-requires-clause-small : goal.renew-requires-clause-small
-renew-requires-clause-small g c = below_ready c.args.table.now c.refresh.new.table 18446744073709551615 (ready_then c.row_laws.ensures c.args.table.now c.settle.new.table c.refresh.new.table c.settle.ensures.settled.ready c.refresh.ensures.kept) c.requires.small
 
 pub renew-requires-clause-same_type : goal.renew-requires-clause-same_type
 renew-requires-clause-same_type g c = ap (λ (k : TypedElements). k.ty) c.in_ok-kept.ensures.value

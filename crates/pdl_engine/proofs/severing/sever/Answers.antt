@@ -4,13 +4,14 @@ use Rattle.pdl_shape.specs.Shape.{size_of}
 use Rattle.pdl_shape.specs.Triple.{Triple}
 use Rattle.pdl_numbers.specs.Typed.{TypedElements}
 use Rattle.pdl_world.specs.World.{elements}
+use Rattle.pdl_nodes.specs.Below.{AreBelow}
 use Rattle.pdl_nodes.specs.Renewed.{CanCut, CanRenew, Layouts, renew}
 use Rattle.pdl_nodes.specs.Outcomes.{waiting_of, waiting_size}
 use Rattle.pdl_pull.specs.Outdated.{outdated}
 use Rattle.pdl_nodes.specs.Row.{Row}
 use Rattle.pdl_nodes.specs.Worlds.{world_of}
 use Rattle.pdl_engine.specs.Loose.{listed_with}
-use Rattle.pdl_engine.proofs.Readied.{ready_then, IsFreshly, others_on, settled_on, only_ready, freshly, ready_steps, below_ready, ready_fresh}
+use Rattle.pdl_engine.proofs.Readied.{ready_then, IsFreshly, others_on, settled_on, only_ready, freshly, ready_steps, ready_fresh}
 use Rattle.pdl_engine.proofs.Renews.{RenewFacts, first_all, root_uncut, renewed_bases, renewed_settled, all_steps, renewed_fresh, can_cut, was_renewed, cut_world}
 use Rattle.pdl_engine.proofs.Tight.{listed_alike, none_listed}
 use Rattle.pdl_engine.proofs.severing.sever.Goals as goal
@@ -22,8 +23,18 @@ pub returns-in_err-refresh-clause-severed : goal.returns-in_err-refresh-clause-s
 returns-in_err-refresh-clause-severed g c = only_ready c.row_laws.ensures c.args.table.now c.refresh.new.table c.args.id c.requires.order c.requires.sized (ready_then c.row_laws.ensures c.args.table.now c.settle.new.table c.refresh.new.table c.settle.ensures.settled.ready c.refresh.ensures.kept)
     (others_on c.args.table.now c.settle.new.table c.refresh.new.table c.args.id c.settle.ensures.settled c.refresh.ensures.kept)
 
+pub returns-in_err-below-clause-severed : goal.returns-in_err-below-clause-severed
+returns-in_err-below-clause-severed g c = only_ready c.row_laws.ensures c.args.table.now c.refresh.new.table c.args.id c.requires.order c.requires.sized (ready_then c.row_laws.ensures c.args.table.now c.settle.new.table c.refresh.new.table c.settle.ensures.settled.ready c.refresh.ensures.kept)
+    (others_on c.args.table.now c.settle.new.table c.refresh.new.table c.args.id c.settle.ensures.settled c.refresh.ensures.kept)
+
 pub returns-in_err-refresh-clause-counted : goal.returns-in_err-refresh-clause-counted
 returns-in_err-refresh-clause-counted g c =
+    let l : c.refresh.new.steps ≤ c.args.steps.now + (outdated c.args.table.now c.args.id + waiting_size c.args.table.now (waiting_of c.args.table.now c.args.id)) =
+    ready_steps c.row_laws.ensures c.args.table.now c.settle.new.table c.args.id c.settle.new.steps c.refresh.new.steps c.args.steps.now c.settle.ensures.settled c.settle.ensures.counted c.refresh.ensures.counted in
+    omega (arith, l)
+
+pub returns-in_err-below-clause-counted : goal.returns-in_err-below-clause-counted
+returns-in_err-below-clause-counted g c =
     let l : c.refresh.new.steps ≤ c.args.steps.now + (outdated c.args.table.now c.args.id + waiting_size c.args.table.now (waiting_of c.args.table.now c.args.id)) =
     ready_steps c.row_laws.ensures c.args.table.now c.settle.new.table c.args.id c.settle.new.steps c.refresh.new.steps c.args.steps.now c.settle.ensures.settled c.settle.ensures.counted c.refresh.ensures.counted in
     omega (arith, l)
@@ -31,6 +42,12 @@ returns-in_err-refresh-clause-counted g c =
 pub copied_and_listed-requires-clause-fresh : goal.copied_and_listed-requires-clause-fresh
 copied_and_listed-requires-clause-fresh g c =
     c.row_laws.ensures.seen.path_first c.refresh.new.table c.args.id c.refresh.ensures.kept.order.still (c.refresh.ensures.kept.alike.has_is c.args.id ∙ c.settle.ensures.settled.ready.alike.has_is c.args.id ∙ c.requires.live) c.in_ok-refresh.ensures.fresh
+
+pub below-requires : goal.below-requires
+below-requires g c = c.refresh.ensures.kept.order.still
+
+pub renew-requires-clause-below : goal.renew-requires-clause-below
+renew-requires-clause-below g c = subst (AreBelow c.refresh.new.table c.args.id) (sym c.deref.ensures.value) c.in_ok-below.ensures
 
 pub returns-in_err-kept-clause-severed : goal.returns-in_err-kept-clause-severed
 returns-in_err-kept-clause-severed g c = only_ready c.row_laws.ensures c.args.table.now c.refresh.new.table c.args.id c.requires.order c.requires.sized (ready_then c.row_laws.ensures c.args.table.now c.settle.new.table c.refresh.new.table c.settle.ensures.settled.ready c.refresh.ensures.kept)
@@ -68,9 +85,6 @@ renew-requires-clause-can g c =
     (c.copy_dims-dims.ensures ∙ ap (λ (t : Triple). t.dims) (c.behind-node.view_is ∙ c.triple.ensures ∙ ap (λ (r : Row). r.triple) c.node-2.ensures))
     es in
     subst (λ (ls : Layouts). CanRenew ls c.refresh.new.table c.args.id c.copy_dims-dims.result c.in_ok-kept.kept.elems) (sym c.new.ensures) (laws.severs c.refresh.new.table c.args.id c.copy_dims-dims.result c.in_ok-kept.kept.elems can es).0
-
-pub renew-requires-clause-small : goal.renew-requires-clause-small
-renew-requires-clause-small g c = below_ready c.args.table.now c.refresh.new.table 18446744073709551615 (ready_then c.row_laws.ensures c.args.table.now c.settle.new.table c.refresh.new.table c.settle.ensures.settled.ready c.refresh.ensures.kept) c.requires.small
 
 pub returns-clause-severed : goal.returns-clause-severed
 returns-clause-severed g c =
@@ -167,6 +181,9 @@ returns-clause-counted g c =
 pub returns-in_err-refresh-clause-stay : goal.returns-in_err-refresh-clause-stay
 returns-in_err-refresh-clause-stay g c = on_err c.from_residual.result (ready_fresh c.args.table.now c.refresh.new.table (ready_then c.row_laws.ensures c.args.table.now c.settle.new.table c.refresh.new.table c.settle.ensures.settled.ready c.refresh.ensures.kept))
 
+pub returns-in_err-below-clause-stay : goal.returns-in_err-below-clause-stay
+returns-in_err-below-clause-stay g c = on_err c.from_residual-in_err-below.result (ready_fresh c.args.table.now c.refresh.new.table (ready_then c.row_laws.ensures c.args.table.now c.settle.new.table c.refresh.new.table c.settle.ensures.settled.ready c.refresh.ensures.kept))
+
 pub returns-in_err-kept-clause-stay : goal.returns-in_err-kept-clause-stay
 returns-in_err-kept-clause-stay g c = on_err c.from_residual-in_err-kept.result (ready_fresh c.args.table.now c.refresh.new.table (ready_then c.row_laws.ensures c.args.table.now c.settle.new.table c.refresh.new.table c.settle.ensures.settled.ready c.refresh.ensures.kept))
 
@@ -179,6 +196,9 @@ returns-clause-fresh g c = λ n.
 
 pub returns-in_err-refresh-clause-settled : goal.returns-in_err-refresh-clause-settled
 returns-in_err-refresh-clause-settled g c = λ n. settled_on c.args.table.now c.settle.new.table c.refresh.new.table c.args.id c.settle.ensures.settled c.refresh.ensures.kept
+
+pub returns-in_err-below-clause-settled : goal.returns-in_err-below-clause-settled
+returns-in_err-below-clause-settled g c = λ n. settled_on c.args.table.now c.settle.new.table c.refresh.new.table c.args.id c.settle.ensures.settled c.refresh.ensures.kept
 
 pub returns-in_err-kept-clause-settled : goal.returns-in_err-kept-clause-settled
 returns-in_err-kept-clause-settled g c = λ n. settled_on c.args.table.now c.settle.new.table c.refresh.new.table c.args.id c.settle.ensures.settled c.refresh.ensures.kept
@@ -215,8 +235,14 @@ returns-clause-settled g c = λ n.
 pub returns-in_err-refresh-clause-root : goal.returns-in_err-refresh-clause-root
 returns-in_err-refresh-clause-root g c = λ r. absurd (c.if-root-id.false (c.root.ensures ∙ ap (λ (x : Row). x.root) c.node.ensures ∙ r))
 
+pub returns-in_err-below-clause-root : goal.returns-in_err-below-clause-root
+returns-in_err-below-clause-root g c = λ r. absurd (c.if-root-id.false (c.root.ensures ∙ ap (λ (x : Row). x.root) c.node.ensures ∙ r))
+
 pub returns-in_err-refresh-clause-spent : goal.returns-in_err-refresh-clause-spent
 returns-in_err-refresh-clause-spent g c = λ r. absurd (c.if-root-id.false (c.root.ensures ∙ ap (λ (x : Row). x.root) c.node.ensures ∙ r))
+
+pub returns-in_err-below-clause-spent : goal.returns-in_err-below-clause-spent
+returns-in_err-below-clause-spent g c = λ r. absurd (c.if-root-id.false (c.root.ensures ∙ ap (λ (x : Row). x.root) c.node.ensures ∙ r))
 
 pub returns-in_err-kept-clause-root : goal.returns-in_err-kept-clause-root
 returns-in_err-kept-clause-root g c = λ r. absurd (c.if-root-id.false (c.root.ensures ∙ ap (λ (x : Row). x.root) c.node.ensures ∙ r))
@@ -260,11 +286,17 @@ returns-then-root-id-clause-severed g c = record {
 pub returns-in_err-refresh-clause-done : goal.returns-in_err-refresh-clause-done
 returns-in_err-refresh-clause-done g c = λ r. absurd (c.if-root-id.false (c.root.ensures ∙ ap (λ (x : Row). x.root) c.node.ensures ∙ r))
 
+pub returns-in_err-below-clause-done : goal.returns-in_err-below-clause-done
+returns-in_err-below-clause-done g c = λ r. absurd (c.if-root-id.false (c.root.ensures ∙ ap (λ (x : Row). x.root) c.node.ensures ∙ r))
+
 pub returns-in_err-kept-clause-done : goal.returns-in_err-kept-clause-done
 returns-in_err-kept-clause-done g c = λ r. absurd (c.if-root-id.false (c.root.ensures ∙ ap (λ (x : Row). x.root) c.node.ensures ∙ r))
 
 pub returns-in_err-refresh-clause-err : goal.returns-in_err-refresh-clause-err
 returns-in_err-refresh-clause-err g c = on_err c.from_residual.result (c.refresh.ensures.kept.world ∙ c.settle.ensures.settled.ready.world)
+
+pub returns-in_err-below-clause-err : goal.returns-in_err-below-clause-err
+returns-in_err-below-clause-err g c = on_err c.from_residual-in_err-below.result (c.refresh.ensures.kept.world ∙ c.settle.ensures.settled.ready.world)
 
 pub returns-in_err-kept-clause-err : goal.returns-in_err-kept-clause-err
 returns-in_err-kept-clause-err g c = on_err c.from_residual-in_err-kept.result (c.refresh.ensures.kept.world ∙ c.settle.ensures.settled.ready.world)

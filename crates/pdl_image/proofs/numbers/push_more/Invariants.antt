@@ -4,4 +4,7 @@ use Rattle.pdl_image.proofs.numbers.push_more.Given as goal
 
 -- the numbers before this one
 abbrev pub invariant-loop-number : goal.invariant-loop-number
-invariant-loop-number l = l.line.items ≡ l.fn.line.items ++ more_text (take l.number-index l.numbers)
+invariant-loop-number l = record {
+  line : l.page.line ≡ l.fn.page.line ++ more_text (take l.number-index l.numbers);
+  text : l.page.text ≡ l.fn.page.text;
+}

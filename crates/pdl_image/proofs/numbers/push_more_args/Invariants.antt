@@ -4,4 +4,7 @@ use Rattle.pdl_image.proofs.numbers.push_more_args.Given as goal
 
 -- the arguments before this one
 abbrev pub invariant-loop-arg : goal.invariant-loop-arg
-invariant-loop-arg l = l.line.items ≡ l.fn.line.items ++ more_text (take l.arg-index l.args)
+invariant-loop-arg l = record {
+  line : l.page.line ≡ l.fn.page.line ++ more_text (take l.arg-index l.args);
+  text : l.page.text ≡ l.fn.page.text;
+}

@@ -4,4 +4,7 @@ use Rattle.pdl_image.proofs.numbers.push_sizes.Given as goal
 
 -- the sizes before this one
 abbrev pub invariant-loop-size : goal.invariant-loop-size
-invariant-loop-size l = l.line.items ≡ l.fn.line.items ++ sizes_text (take l.size-index l.sizes)
+invariant-loop-size l = record {
+  line : l.page.line ≡ l.fn.page.line ++ sizes_text (take l.size-index l.sizes);
+  text : l.page.text ≡ l.fn.page.text;
+}

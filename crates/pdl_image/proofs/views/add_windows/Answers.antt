@@ -7,4 +7,4 @@ use Rattle.pdl_image.proofs.views.add_windows.Goals as goal
 pub returns : goal.returns
 returns c =
     let l = view_line c.args.name.now c.args.parent.now (ranged c.args.index.now c.args.windows.now.sizes.now (edge_number c.args.windows.now.edge)) in
-    adds_then _ _ _ (l ∷ []) (undef_line c.args.index.now ∷ []) _ _ c.in_ok-add_range.ensures c.add_undef.ensures
+    adds_then _ _ _ (l ∷ []) (undef_line c.args.index.now ∷ []) _ _ c.in_ok-add_ranged.ensures c.add_undef.ensures

@@ -1,5 +1,6 @@
 use Rattle.pdl_scope.proofs.Dearer.{growing}
 use Rattle.pdl_scope.proofs.Newest.{none_lost, roots_are_ready, roots_move, views_add, views_cost}
+use Rattle.pdl_scope.proofs.Waited.{unwritten}
 use Rattle.pdl_scope.proofs.laws.cost_laws.Goals as goal
 
 pub returns-clause-older : goal.returns-clause-older
@@ -19,3 +20,6 @@ returns-clause-shown c = views_add
 
 pub returns-clause-grown : goal.returns-clause-grown
 returns-clause-grown c = none_lost
+
+pub returns-clause-unwritten : goal.returns-clause-unwritten
+returns-clause-unwritten c = unwritten c.hold_laws.ensures.waiting

@@ -1,30 +1,35 @@
 use Rattle.std.proofs.Common.{rules, ◌≡◌, [], ◌∷◌, ◌++◌, ◌+◌, ◌<◌, ◌≤◌, List, Ok, length, refl, sym, ap, subst, ◌∙◌, arith, take}
+use Rattle.std.proofs.lemmas.Int.{to_z-of_z}
+use Rattle.std.specs.Int.{w64}
 use Rattle.std.proofs.lemmas.List.{take_all}
 use Rattle.pdl_syntax.specs.declared.tree.Arg.{Arg}
 use Rattle.pdl_syntax.specs.Tree.{Tree, binary, none, call, unary}
 use Rattle.pdl_syntax.specs.TreeOf.{tree_of, args_of, argument_of}
 use Rattle.pdl_syntax.specs.WellMade.{AreArrays, AreArgArrays}
 use Rattle.pdl_machine.specs.Names.{Names}
-use Rattle.pdl_machine.specs.Outcome.{Valued}
+use Rattle.pdl_machine.specs.Outcome.{Valued, new_root}
 use Rattle.pdl_machine.specs.Calls.{call_value}
-use Rattle.pdl_machine.specs.Value.{Taken, value_of, taken}
+use Rattle.pdl_machine.specs.Value.{Taken, number_made, value_of, taken}
 use Rattle.pdl_scope.specs.Growth.{grows_refl}
 use Rattle.pdl_session.specs.declared.given.Given.{Given}
 use Rattle.pdl_scope.specs.Answers.{IsFault, Evaluates}
 use Rattle.pdl_session.specs.Bounds.{EvaluatesPlainly}
 use Rattle.pdl_session.specs.Arguments.{argument, arguments, AreGivenLive}
 use Rattle.pdl_session.proofs.Bounded.{list_plain, named_plain, number_plain}
-use Rattle.std.proofs.Common.{ℕ, Err, Vec, Global}
+use Rattle.std.proofs.Common.{ℕ, ℤ, FitsSigned, Vec, Global}
 use Rattle.pdl_ops.specs.Elementwise.{unary_each}
 use Rattle.pdl_engine.specs.State.{ready_steps}
 use Rattle.pdl_machine.specs.Arrays.{Arrays, array_in}
 use Rattle.pdl_machine.specs.Operators.{binary_each}
-use Rattle.pdl_machine.specs.declared.fault.Fault.TheVariants.{UnknownName}
-use Rattle.pdl_scope.specs.Costs.{total_size}
+use Rattle.pdl_numbers.specs.Typed.{count_moved}
+use Rattle.pdl_machine.specs.Then.{and_then}
+use Rattle.pdl_scope.specs.declared.fault.ScopeFault.TheVariants.{NoMemory}
+use Rattle.pdl_scope.specs.Costs.{MovesUpTo, total_size}
 use Rattle.pdl_scope.specs.Scope.{engine_of}
-use Rattle.pdl_session.specs.Came.{args_left, came, evaluated, parts_left}
-use Rattle.pdl_session.specs.Costs.{EvaluatesWithin, PaysWithin, argued_steps, given_steps, named_steps, ready_all}
-use Rattle.pdl_session.proofs.Expressions.{args_refused, argument_refused, binary_within, both_parts, err_again, left_first, list_within, named_within, names_less, names_live, number_within, paid_more, paid_on, pays_fault, pays_nothing, argued_part, args_less, right_refused, taken_more, taken_refused, unary_within, unknown_within}
+use Rattle.pdl_session.specs.Came.{args_evaluated, args_left, came, evaluated, parts_left}
+use Rattle.pdl_session.specs.Costs.{EvaluatesWithin, argued_steps, named_steps, ready_all}
+use Rattle.pdl_session.proofs.Expressions.{args_less, argued_part, binary_within, both_parts, list_within, made_enough, named_within, names_less, names_live, number_within, paid_on, pays_fault, taken_more, taken_refused, unary_within, unmoved_within}
+use Rattle.pdl_session.proofs.Gained.{call_part, left_part, right_part, size_in, unary_part, up_to_part}
 use Rattle.pdl_session.proofs.Facts.{hands_on, handed_on, first_fault, grows_trans}
 use Rattle.pdl_session.proofs.Evals.{fault_at, arrays_at, weight, weights, weights_at, named_is, list_is, unary_tree, binary_tree, unary_is, binary_is, unary_fault, left_fault, right_fault, tree_is, with_given, call_is, arguments_snoc, live_snoc, given_still, args_more}
 use Rattle.pdl_session.proofs.eval.+eval.Goals as goal
@@ -263,18 +268,27 @@ eval-returns-in-List-clause-plain g t c =
     list_plain c.args.value.now c.deref.result.now _ c.args.scope.now c.make_like-made.new.self _ _ c.make_like-made.result c.in-List.is c.deref.ensures c.make_like-made.ensures.roots c.make_like-made.ensures.fresh c.make_like-made.ensures.counted
 
 pub eval-returns-in-Number-clause-within : goal.eval-returns-in-Number-clause-within
-eval-returns-in-Number-clause-within g t c = number_within c.args.value.now c.in-Number.number c.args.scope.now c.number_array.new.scope _ _ c.number_array.result c.in-Number.is c.number_array.ensures.within
+eval-returns-in-Number-clause-within g t c =
+    let s = c.args.scope.now in
+    let new = c.number_array.new.scope in
+    let n = c.in-Number.number in
+    let fits : FitsSigned w64 n = search rules in
+    let W : ℤ → Type 0 = λ k. EvaluatesWithin 0 s new (came (new_root s.arrays (number_made k)) s.arrays) c.args.steps.now c.number_array.new.steps c.number_array.result in
+    number_within c.args.value.now n s new c.args.steps.now c.number_array.new.steps c.number_array.result c.in-Number.is (subst W (to_z-of_z w64 n fits) c.number_array.ensures.within)
 
 pub eval-returns-in-Some-clause-within : goal.eval-returns-in-Some-clause-within
-eval-returns-in-Some-clause-within g t c = named_within c.args.value.now _ c.args.scope.now c.in-Some.id c.args.steps.now c.in-Named.is (sym c.number_of.ensures.number ∙ c.in-Some.is)
+eval-returns-in-Some-clause-within g t c =
+    let s = c.args.scope.now in
+    named_within c.args.value.now _ s (evaluated s.names s.arrays (tree_of c.args.value.now)) c.in-Some.id c.args.steps.now c.in-Named.is (sym c.number_of.ensures.number ∙ c.in-Some.is)
 
 pub eval-returns-in-None-clause-within : goal.eval-returns-in-None-clause-within
-eval-returns-in-None-clause-within g t c = unknown_within c.args.value.now _ c.args.scope.now c.args.steps.now UnknownName c.in-Named.is
+eval-returns-in-None-clause-within g t c =
+    let s = c.args.scope.now in
+    unmoved_within s.names s (tree_of c.args.value.now) (named_steps s (tree_of c.args.value.now)) c.args.steps.now
 
 pub eval-returns-in-List-clause-within : goal.eval-returns-in-List-clause-within
 eval-returns-in-List-clause-within g t c =
-    let s = c.args.scope.now in
-    list_within c.cost_laws.ensures.roots c.cost_laws.ensures.made c.args.value.now c.deref.result.now _ s c.make_like-made.new.self (parts_left s.names s.arrays (tree_of c.args.value.now)) _ _ c.make_like-made.result c.in-List.is c.in_order-in-List.ensures c.make_like-made.ensures.value
+    list_within c.cost_laws.ensures.roots c.cost_laws.ensures.made c.args.value.now c.deref.result.now _ c.args.scope.now c.make_like-made.new.self _ _ c.make_like-made.result c.in-List.is c.deref.ensures c.in_order-in-List.ensures c.make_like-made.ensures.value
     c.make_like-made.ensures.counted
 
 pub eval-returns-in_ok-operand-in-Unary-clause-within : goal.eval-returns-in_ok-operand-in-Unary-clause-within
@@ -282,110 +296,123 @@ eval-returns-in_ok-operand-in-Unary-clause-within g t c =
     let s = c.args.scope.now in
     let x = c.deref-in-Unary.result.now in
     let mid = c.eval.new.scope in
-    let is = unary_tree c.args.value.now x c.in-Unary.op _ c.in-Unary.is c.deref-in-Unary.ensures in
-    let made = unary_each c.in-Unary.op (array_in mid.arrays c.in_ok-operand-in-Unary.operand) in
-    subst (λ (y : Tree). EvaluatesWithin (named_steps s y) s c.unary-made.new.self (parts_left s.names s.arrays y) c.args.steps.now c.unary-made.new.steps c.unary-made.result) (sym is)
-    (unary_within c.cost_laws.ensures.roots c.cost_laws.ensures.made s mid c.unary-made.new.self (parts_left s.names s.arrays (unary c.in-Unary.op (tree_of x))) made (named_steps s (tree_of x)) c.args.steps.now c.eval.new.steps c.unary-made.new.steps c.in_ok-operand-in-Unary.operand c.unary-made.result
-    c.in_order-in-Unary.ensures c.in_ok-operand-in-Unary.ensures.within c.unary-made.ensures.value c.unary-made.ensures.counted)
+    let v = c.in_ok-operand-in-Unary.operand in
+    let op = c.in-Unary.op in
+    let is = unary_tree c.args.value.now x op _ c.in-Unary.is c.deref-in-Unary.ensures in
+    let made = unary_each op (array_in mid.arrays v) in
+    let late = evaluated s.names s.arrays (unary op (tree_of x)) in
+    let value = unary_is s.names s.arrays mid.arrays op (unary op (tree_of x)) (tree_of x) v refl c.in_ok-operand-in-Unary.ensures.value.0 in
+    let size : size_in late ≡ count_moved made.elems + size_in mid.arrays = ap (λ (y : Valued). size_in (came y (parts_left s.names s.arrays (unary op (tree_of x))))) value in
+    subst (λ (y : Tree). EvaluatesWithin (named_steps s y) s c.unary-made.new.self (evaluated s.names s.arrays y) c.args.steps.now c.unary-made.new.steps c.unary-made.result) (sym is)
+    (unary_within c.cost_laws.ensures.roots c.cost_laws.ensures.made s mid c.unary-made.new.self late made (named_steps s (tree_of x)) c.args.steps.now c.eval.new.steps c.unary-made.new.steps v c.unary-made.result
+    c.in_order-in-Unary.ensures c.in_ok-operand-in-Unary.ensures.within c.unary-made.ensures.value c.unary-made.ensures.counted (omega (arith, size)))
 
 pub eval-returns-in_err-operand-in-Unary-clause-within : goal.eval-returns-in_err-operand-in-Unary-clause-within
 eval-returns-in_err-operand-in-Unary-clause-within g t c =
     let s = c.args.scope.now in
     let x = c.deref-in-Unary.result.now in
-    let is = unary_tree c.args.value.now x c.in-Unary.op _ c.in-Unary.is c.deref-in-Unary.ensures in
-    let f = c.in_err-operand-in-Unary.field-0.0 in
+    let op = c.in-Unary.op in
+    let is = unary_tree c.args.value.now x op _ c.in-Unary.is c.deref-in-Unary.ensures in
     let new = c.eval.new.scope in
-    let owed : ℕ → ℕ = ready_steps (engine_of new) in
-    let left = parts_left s.names s.arrays (tree_of x) in
-    let refused = left_first owed (named_steps s (tree_of x)) s new (value_of s.names s.arrays (tree_of x)) left (λ b. b) c.args.steps.now c.eval.new.steps f c.in_err-operand-in-Unary.ensures.value c.in_err-operand-in-Unary.ensures.within in
-    subst (λ (y : Tree). EvaluatesWithin (named_steps s y) s new (parts_left s.names s.arrays y) c.args.steps.now c.eval.new.steps c.from_residual.result) (sym is)
-    (pays_fault owed owed (named_steps s (tree_of x)) s new (parts_left s.names s.arrays (unary c.in-Unary.op (tree_of x))) c.args.steps.now c.eval.new.steps f c.from_residual.result c.from_residual.ensures.1 refused)
+    let part = unary_part s.names s.arrays op (tree_of x) in
+    subst (λ (y : Tree). EvaluatesWithin (named_steps s y) s new (evaluated s.names s.arrays y) c.args.steps.now c.eval.new.steps c.from_residual.result) (sym is)
+    (pays_fault (ready_steps (engine_of new)) (named_steps s (tree_of x)) s new (evaluated s.names s.arrays (unary op (tree_of x))) c.args.steps.now c.eval.new.steps c.in_err-operand-in-Unary.field-0.0 c.from_residual.result c.from_residual.ensures.1
+    (omega (arith, part, c.in_err-operand-in-Unary.ensures.within)))
 
 pub eval-returns-in_ok-right-in-Binary-clause-within : goal.eval-returns-in_ok-right-in-Binary-clause-within
 eval-returns-in_ok-right-in-Binary-clause-within g t c =
     let s = c.args.scope.now in
     let x = c.deref-in-Binary.result.now in
     let y = c.deref-in-Binary-2.result.now in
+    let op = c.in-Binary.op in
     let mid = c.eval-in-Binary.new.scope in
     let late = c.eval-in-Binary-2.new.scope in
-    let is = binary_tree c.args.value.now x y c.in-Binary.op _ _ c.in-Binary.is c.deref-in-Binary.ensures c.deref-in-Binary-2.ensures in
+    let is = binary_tree c.args.value.now x y op _ _ c.in-Binary.is c.deref-in-Binary.ensures c.deref-in-Binary-2.ensures in
     let v = c.in_ok-left-in-Binary.left in
     let u = c.in_ok-right-in-Binary.right in
-    let wanted = binary_each c.in-Binary.op (array_in late.arrays v) (array_in late.arrays u) in
+    let wanted = binary_each op (array_in late.arrays v) (array_in late.arrays u) in
     let first = c.cost_laws.ensures.older s mid c.in_order.ensures c.in_order-in-Binary.ensures c.eval-in-Binary.ensures.grown in
     let next = c.cost_laws.ensures.older mid late c.in_order-in-Binary.ensures c.in_order-in-Binary-2.ensures c.eval-in-Binary-2.ensures.grown in
     let fewer = names_less s mid c.eval-in-Binary.ensures.grown.names (names_live s c.in_order.ensures.whole) first (tree_of y) in
-    let both = both_parts s.names mid.names s.arrays mid.arrays late.arrays c.in-Binary.op (tree_of x) (tree_of y) v u c.in_ok-left-in-Binary.ensures.value.0 c.eval-in-Binary.ensures.grown.names c.in_ok-right-in-Binary.ensures.value.0 in
-    let L : Arrays → Type 0 = λ b. EvaluatesWithin (named_steps s (tree_of x) + named_steps s (tree_of y)) s c.binary-made.new.self b c.args.steps.now c.binary-made.new.steps c.binary-made.result in
-    subst (λ (z : Tree). EvaluatesWithin (named_steps s z) s c.binary-made.new.self (parts_left s.names s.arrays z) c.args.steps.now c.binary-made.new.steps c.binary-made.result) (sym is)
-    (subst L (sym both) (binary_within c.cost_laws.ensures.roots c.cost_laws.ensures.made s mid late c.binary-made.new.self wanted (named_steps s (tree_of x)) (named_steps mid (tree_of y)) (named_steps s (tree_of y)) c.args.steps.now c.eval-in-Binary.new.steps c.eval-in-Binary-2.new.steps c.binary-made.new.steps v u c.binary-made.result
-    c.in_order-in-Binary-3.ensures c.in_ok-left-in-Binary.ensures.value.1 next c.in_ok-left-in-Binary.ensures.within fewer c.in_ok-right-in-Binary.ensures.within c.binary-made.ensures.value c.binary-made.ensures.counted))
+    let tree = binary op (tree_of x) (tree_of y) in
+    let both = both_parts s.names mid.names s.arrays mid.arrays late.arrays op (tree_of x) (tree_of y) v u c.in_ok-left-in-Binary.ensures.value.0 c.eval-in-Binary.ensures.grown.names c.in_ok-right-in-Binary.ensures.value.0 in
+    let value = binary_is s.names mid.names s.arrays mid.arrays late.arrays op tree (tree_of x) (tree_of y) v u refl c.in_ok-left-in-Binary.ensures.value.0 c.eval-in-Binary.ensures.grown.names c.in_ok-right-in-Binary.ensures.value.0 in
+    let last = evaluated s.names s.arrays tree in
+    let size : size_in last ≡ size_in (came (and_then wanted (new_root late.arrays)) late.arrays) = ap (λ (z : Valued). size_in (came z (parts_left s.names s.arrays tree))) value ∙ ap (λ (a : Arrays). size_in (came (and_then wanted (new_root late.arrays)) a)) both in
+    subst (λ (z : Tree). EvaluatesWithin (named_steps s z) s c.binary-made.new.self (evaluated s.names s.arrays z) c.args.steps.now c.binary-made.new.steps c.binary-made.result) (sym is)
+    (binary_within c.cost_laws.ensures.roots c.cost_laws.ensures.made s mid late c.binary-made.new.self last wanted (named_steps s (tree_of x)) (named_steps mid (tree_of y)) (named_steps s (tree_of y)) c.args.steps.now c.eval-in-Binary.new.steps c.eval-in-Binary-2.new.steps c.binary-made.new.steps v u c.binary-made.result
+    c.in_order-in-Binary-3.ensures c.in_ok-left-in-Binary.ensures.value.1 next c.in_ok-left-in-Binary.ensures.within fewer c.in_ok-right-in-Binary.ensures.within c.binary-made.ensures.value c.binary-made.ensures.counted
+    (omega (arith, size, made_enough wanted late.arrays)))
 
 pub eval-returns-in_err-left-in-Binary-clause-within : goal.eval-returns-in_err-left-in-Binary-clause-within
 eval-returns-in_err-left-in-Binary-clause-within g t c =
     let s = c.args.scope.now in
     let x = c.deref-in-Binary.result.now in
     let y = c.in-Binary.right.value in
-    let is = binary_tree c.args.value.now x y c.in-Binary.op _ _ c.in-Binary.is c.deref-in-Binary.ensures refl in
-    let f = c.in_err-left-in-Binary.field-0.0 in
+    let op = c.in-Binary.op in
+    let is = binary_tree c.args.value.now x y op _ _ c.in-Binary.is c.deref-in-Binary.ensures refl in
     let new = c.eval-in-Binary.new.scope in
-    let owed : ℕ → ℕ = ready_steps (engine_of new) in
-    let next : Arrays → Arrays = λ b. evaluated s.names b (tree_of y) in
-    let all = parts_left s.names s.arrays (binary c.in-Binary.op (tree_of x) (tree_of y)) in
-    let refused = left_first owed (named_steps s (tree_of x)) s new (value_of s.names s.arrays (tree_of x)) (parts_left s.names s.arrays (tree_of x)) next c.args.steps.now c.eval-in-Binary.new.steps f c.in_err-left-in-Binary.ensures.value c.in_err-left-in-Binary.ensures.within in
-    subst (λ (z : Tree). EvaluatesWithin (named_steps s z) s new (parts_left s.names s.arrays z) c.args.steps.now c.eval-in-Binary.new.steps c.from_residual-in_err-left-in-Binary.result) (sym is)
-    (paid_more owed (named_steps s (tree_of x)) (named_steps s (tree_of x) + named_steps s (tree_of y)) s new all c.args.steps.now c.eval-in-Binary.new.steps c.from_residual-in_err-left-in-Binary.result (omega arith)
-    (pays_fault owed owed (named_steps s (tree_of x)) s new all c.args.steps.now c.eval-in-Binary.new.steps f c.from_residual-in_err-left-in-Binary.result c.from_residual-in_err-left-in-Binary.ensures.1 refused))
+    let tree = binary op (tree_of x) (tree_of y) in
+    let part = left_part s.names s.arrays op (tree_of x) (tree_of y) in
+    subst (λ (z : Tree). EvaluatesWithin (named_steps s z) s new (evaluated s.names s.arrays z) c.args.steps.now c.eval-in-Binary.new.steps c.from_residual-in_err-left-in-Binary.result) (sym is)
+    (pays_fault (ready_steps (engine_of new)) (named_steps s tree) s new (evaluated s.names s.arrays tree) c.args.steps.now c.eval-in-Binary.new.steps c.in_err-left-in-Binary.field-0.0 c.from_residual-in_err-left-in-Binary.result c.from_residual-in_err-left-in-Binary.ensures.1
+    (omega (arith, part, c.in_err-left-in-Binary.ensures.within)))
 
 pub eval-returns-in_err-right-in-Binary-clause-within : goal.eval-returns-in_err-right-in-Binary-clause-within
 eval-returns-in_err-right-in-Binary-clause-within g t c =
     let s = c.args.scope.now in
     let x = c.deref-in-Binary.result.now in
     let y = c.deref-in-Binary-2.result.now in
+    let op = c.in-Binary.op in
     let mid = c.eval-in-Binary.new.scope in
     let late = c.eval-in-Binary-2.new.scope in
-    let is = binary_tree c.args.value.now x y c.in-Binary.op _ _ c.in-Binary.is c.deref-in-Binary.ensures c.deref-in-Binary-2.ensures in
-    let f = c.in_err-right-in-Binary.field-0.0 in
+    let is = binary_tree c.args.value.now x y op _ _ c.in-Binary.is c.deref-in-Binary.ensures c.deref-in-Binary-2.ensures in
     let first = c.cost_laws.ensures.older s mid c.in_order.ensures c.in_order-in-Binary.ensures c.eval-in-Binary.ensures.grown in
     let fewer = names_less s mid c.eval-in-Binary.ensures.grown.names (names_live s c.in_order.ensures.whole) first (tree_of y) in
-    subst (λ (z : Tree). EvaluatesWithin (named_steps s z) s late (parts_left s.names s.arrays z) c.args.steps.now c.eval-in-Binary-2.new.steps c.from_residual-in_err-right-in-Binary.result) (sym is)
-    (right_refused s mid late c.in-Binary.op (tree_of x) (tree_of y) (named_steps mid (tree_of y)) c.args.steps.now c.eval-in-Binary.new.steps c.eval-in-Binary-2.new.steps c.in_ok-left-in-Binary.left f c.from_residual-in_err-right-in-Binary.result c.from_residual-in_err-right-in-Binary.ensures.1
-    c.in_ok-left-in-Binary.ensures.value.0 c.eval-in-Binary.ensures.grown.names c.in_err-right-in-Binary.ensures.value c.in_ok-left-in-Binary.ensures.within fewer c.in_err-right-in-Binary.ensures.within)
+    let tree = binary op (tree_of x) (tree_of y) in
+    let part = right_part s.names mid.names s.arrays mid.arrays op (tree_of x) (tree_of y) c.in_ok-left-in-Binary.left c.in_ok-left-in-Binary.ensures.value.0 c.eval-in-Binary.ensures.grown.names in
+    subst (λ (z : Tree). EvaluatesWithin (named_steps s z) s late (evaluated s.names s.arrays z) c.args.steps.now c.eval-in-Binary-2.new.steps c.from_residual-in_err-right-in-Binary.result) (sym is)
+    (pays_fault (ready_steps (engine_of late)) (named_steps s tree) s late (evaluated s.names s.arrays tree) c.args.steps.now c.eval-in-Binary-2.new.steps c.in_err-right-in-Binary.field-0.0 c.from_residual-in_err-right-in-Binary.result c.from_residual-in_err-right-in-Binary.ensures.1
+    (omega (arith, part, fewer, c.in_ok-left-in-Binary.ensures.within, c.in_err-right-in-Binary.ensures.within)))
 
 pub eval-returns-in_ok-given-in-Call-clause-within : goal.eval-returns-in_ok-given-in-Call-clause-within
 eval-returns-in_ok-given-in-Call-clause-within g t c =
     let s = c.args.scope.now in
     let mid = c.take.new.scope in
     let xs = c.deref-in-Call.result.now in
-    let e : tree_of c.args.value.now ≡ call c.in-Call.name (args_of xs none) = tree_is c.args.value.now c.in-Call.name c.in-Call.args xs (c.calls_are_trees.ensures c.in-Call.name c.in-Call.args) c.in-Call.is c.deref-in-Call.ensures.value in
+    let f = c.in-Call.name in
+    let args = args_of xs none in
+    let items = arguments c.deref-in-Call-2.result.now in
+    let e : tree_of c.args.value.now ≡ call f args = tree_is c.args.value.now f c.in-Call.args xs (c.calls_are_trees.ensures f c.in-Call.args) c.in-Call.is c.deref-in-Call.ensures.value in
     let before = ap (λ gs. with_given s.arrays (arguments gs)) (sym c.new-none.ensures.items) in
-    let all : taken s.names s.arrays (args_of xs none) ≡ Ok (mid.arrays, arguments c.in_ok-given-in-Call.given.items) = c.in_ok-given-in-Call.ensures.value s.arrays none before in
-    let G : List Given → Type 0 = λ gs. c.take.new.steps + ready_all mid c.in_ok-given-in-Call.given.items + total_size s.arrays.world ≤ c.args.steps.now + total_size mid.arrays.world + (argued_steps s (args_of xs none) + ready_all s gs) in
+    let all : taken s.names s.arrays args ≡ Ok (mid.arrays, arguments c.in_ok-given-in-Call.given.items) = c.in_ok-given-in-Call.ensures.value s.arrays none before in
+    let G : List Given → Type 0 = λ gs. c.take.new.steps + ready_all mid c.in_ok-given-in-Call.given.items + total_size s.arrays.world ≤ c.args.steps.now + total_size mid.arrays.world + (argued_steps s args + ready_all s gs) in
     let given : G [] = subst G c.new-none.ensures.items (c.in_ok-given-in-Call.ensures.within s.arrays none before) in
-    let H : List Given → Type 0 = λ gs. EvaluatesWithin (ready_all mid gs) mid c.call.new.scope mid.arrays c.take.new.steps c.call.new.steps c.call.result in
+    let part = came (call_value mid.names f mid.arrays items) mid.arrays in
+    let H : List Given → Type 0 = λ gs. EvaluatesWithin (ready_all mid gs) mid c.call.new.scope part c.take.new.steps c.call.new.steps c.call.result in
     let called = subst H c.deref-in-Call-2.ensures.value c.call.ensures.within in
-    let L : Taken → Type 0 = λ t. EvaluatesWithin (argued_steps s (args_of xs none)) s c.call.new.scope (came t (args_left s.names s.arrays (args_of xs none))) c.args.steps.now c.call.new.steps c.call.result in
-    subst (λ (z : Tree). EvaluatesWithin (named_steps s z) s c.call.new.scope (parts_left s.names s.arrays z) c.args.steps.now c.call.new.steps c.call.result) (sym e)
-    (subst L (sym all) (paid_on (ready_steps (engine_of c.call.new.scope)) (ready_all mid c.in_ok-given-in-Call.given.items) (argued_steps s (args_of xs none)) s mid c.call.new.scope mid.arrays c.args.steps.now c.take.new.steps c.call.new.steps c.call.result (omega (arith, given)) called))
+    let value = call_is s.names mid.names s.arrays mid.arrays f args (arguments c.in_ok-given-in-Call.given.items) items all (ap arguments c.deref-in-Call-2.ensures.value) c.take.ensures.grown.names in
+    let late = evaluated s.names s.arrays (call f args) in
+    let size : size_in late ≡ size_in part =
+    ap (λ (y : Valued). size_in (came y (parts_left s.names s.arrays (call f args)))) value ∙ ap (λ (y : Taken). size_in (came (call_value mid.names f mid.arrays items) (came y (args_left s.names s.arrays args)))) all in
+    subst (λ (z : Tree). EvaluatesWithin (named_steps s z) s c.call.new.scope (evaluated s.names s.arrays z) c.args.steps.now c.call.new.steps c.call.result) (sym e)
+    (paid_on (ready_steps (engine_of c.call.new.scope)) (ready_all mid c.in_ok-given-in-Call.given.items) (argued_steps s args) s mid c.call.new.scope part late c.args.steps.now c.take.new.steps c.call.new.steps c.call.result (omega (arith, given)) (omega (arith, size)) called)
 
 pub eval-returns-in_err-given-in-Call-clause-within : goal.eval-returns-in_err-given-in-Call-clause-within
 eval-returns-in_err-given-in-Call-clause-within g t c =
     let s = c.args.scope.now in
     let xs = c.deref-in-Call.result.now in
     let new = c.take.new.scope in
-    let f = c.in_err-given-in-Call.field-0.0 in
-    let e : tree_of c.args.value.now ≡ call c.in-Call.name (args_of xs none) = tree_is c.args.value.now c.in-Call.name c.in-Call.args xs (c.calls_are_trees.ensures c.in-Call.name c.in-Call.args) c.in-Call.is c.deref-in-Call.ensures.value in
-    let owed : ℕ → ℕ = ready_steps (engine_of new) in
+    let f = c.in-Call.name in
+    let args = args_of xs none in
+    let e : tree_of c.args.value.now ≡ call f args = tree_is c.args.value.now f c.in-Call.args xs (c.calls_are_trees.ensures f c.in-Call.args) c.in-Call.is c.deref-in-Call.ensures.value in
     let before = ap (λ gs. with_given s.arrays (arguments gs)) (sym c.new-none.ensures.items) in
-    let left = args_left s.names s.arrays (args_of xs none) in
-    let all = parts_left s.names s.arrays (call c.in-Call.name (args_of xs none)) in
-    let G : List Given → Type 0 = λ gs. PaysWithin owed (argued_steps s (args_of xs none) + ready_all s gs) s new left c.args.steps.now c.take.new.steps (Err f) in
-    let due : Vec Given Global → ℕ = λ all. ready_all new all.items in
-    let given : G c.new-none.result.items = err_again due owed (argued_steps s (args_of xs none) + ready_all s c.new-none.result.items) s new left c.args.steps.now c.take.new.steps f (c.in_err-given-in-Call.ensures.within s.arrays none before) in
-    let refused = left_first owed (argued_steps s (args_of xs none) + 0) s new (taken s.names s.arrays (args_of xs none)) left (λ b. b) c.args.steps.now c.take.new.steps f (c.in_err-given-in-Call.ensures.value s.arrays none before) (subst G c.new-none.ensures.items given) in
-    subst (λ (z : Tree). EvaluatesWithin (named_steps s z) s new (parts_left s.names s.arrays z) c.args.steps.now c.take.new.steps c.from_residual-in_err-given-in-Call.result) (sym e)
-    (paid_more owed (argued_steps s (args_of xs none) + 0) (argued_steps s (args_of xs none)) s new all c.args.steps.now c.take.new.steps c.from_residual-in_err-given-in-Call.result (omega arith)
-    (pays_fault owed owed (argued_steps s (args_of xs none) + 0) s new all c.args.steps.now c.take.new.steps f c.from_residual-in_err-given-in-Call.result c.from_residual-in_err-given-in-Call.ensures.1 refused))
+    let none_given : ready_all s c.new-none.result.items ≡ 0 = ap (ready_all s) c.new-none.ensures.items in
+    let part = call_part s.names s.arrays f args in
+    let within = c.in_err-given-in-Call.ensures.within s.arrays none before in
+    subst (λ (z : Tree). EvaluatesWithin (named_steps s z) s new (evaluated s.names s.arrays z) c.args.steps.now c.take.new.steps c.from_residual-in_err-given-in-Call.result) (sym e)
+    (pays_fault (ready_steps (engine_of new)) (argued_steps s args) s new (evaluated s.names s.arrays (call f args)) c.args.steps.now c.take.new.steps c.in_err-given-in-Call.field-0.0 c.from_residual-in_err-given-in-Call.result c.from_residual-in_err-given-in-Call.ensures.1
+    (omega (arith, part, none_given, within)))
 
 pub take-returns-clause-within : goal.take-returns-clause-within
 take-returns-clause-within g t c = λ a front before.
@@ -399,7 +426,6 @@ take-returns-in_err-one-clause-within g t c = λ a front before.
     let i = c.loop-arg.arg-index in
     let x = c.arg-item.result in
     let so_far = args_of (take i xs) front in
-    let f = c.in_err-one.field-0.0 in
     let gs = arguments c.loop-arg.given.items in
     let same = c.loop-arg.invariant.grown.names in
     let mid = c.loop-arg.scope in
@@ -407,14 +433,35 @@ take-returns-in_err-one-clause-within g t c = λ a front before.
     let first = c.cost_laws.ensures.older s mid c.in_order.ensures c.in_order-in-loop-arg.ensures c.loop-arg.invariant.grown in
     let fewer = args_less s mid same (names_live s c.in_order.ensures.whole) first (argument_of x none) in
     let taken_so : taken mid.names a so_far ≡ Ok (mid.arrays, gs) = subst (λ (n : Names). taken n a so_far ≡ Ok (mid.arrays, gs)) (sym same) (c.loop-arg.invariant.so_far a front before) in
-    let fault : IsFault (taken s.names a (argument_of x so_far)) f = subst (λ (n : Names). IsFault (taken n a (argument_of x so_far)) f) same (c.in_err-one.ensures.value a so_far gs taken_so) in
-    let owed : Given → ℕ = given_steps (ready_steps (engine_of late)) in
     let due : Vec Given Global → ℕ = λ all. ready_all late all.items in
-    let most = argued_steps s (args_of xs none) + ready_all s c.args.given.items in
-    let N : Names → Type 0 = λ n. PaysWithin owed (argued_steps mid (argument_of x none)) mid late (args_left n a (argument_of x so_far)) c.loop-arg.steps c.take_one.new.steps (Err f) in
-    args_refused due most s late s.names a xs front i x c.args.steps.now c.take_one.new.steps f c.from_residual.result (omega arith) c.arg-item.is c.from_residual.ensures.1 fault
-    (taken_refused due s mid late (args_left s.names a (argument_of x so_far)) xs c.loop-arg.given.items x i (ready_all s c.args.given.items) c.args.steps.now c.loop-arg.steps c.take_one.new.steps f c.from_residual.result (omega arith) c.arg-item.is fewer
-    c.loop-arg.invariant.within c.from_residual.ensures.1 (subst N same (c.in_err-one.ensures.within a so_far gs taken_so)))
+    let held = ready_all s c.args.given.items in
+    let N : Names → Type 0 = λ n. MovesUpTo (argued_steps mid (argument_of x none)) mid (args_evaluated n a (argument_of x so_far)) c.loop-arg.steps c.take_one.new.steps in
+    let refused = taken_refused s mid (args_evaluated s.names a (argument_of x so_far)) xs c.loop-arg.given.items x i held c.args.steps.now c.loop-arg.steps c.take_one.new.steps (omega arith) c.arg-item.is fewer c.loop-arg.invariant.within
+    (subst N same (c.in_err-one.ensures.within a so_far gs taken_so)) in
+    let part = up_to_part s.names a xs front i x (omega arith) c.arg-item.is in
+    pays_fault due (argued_steps s (args_of xs none) + held) s late (args_evaluated s.names a (args_of xs front)) c.args.steps.now c.take_one.new.steps c.in_err-one.field-0.0 c.from_residual.result c.from_residual.ensures.1
+    (omega (arith, refused, part))
 
 pub take-returns-in_err-push-clause-within : goal.take-returns-in_err-push-clause-within
-take-returns-in_err-push-clause-within g t c = λ a front before. pays_nothing _ _ c.args.scope.now c.take_one.new.scope (args_left c.args.scope.now.names a (args_of c.args.args.now front)) c.args.steps.now c.take_one.new.steps c.from_residual-in_err-push.result c.from_residual-in_err-push.ensures.1
+take-returns-in_err-push-clause-within g t c = λ a front before.
+    let s = c.args.scope.now in
+    let xs = c.args.args.now in
+    let i = c.loop-arg.arg-index in
+    let x = c.arg-item.result in
+    let so_far = args_of (take i xs) front in
+    let gs = arguments c.loop-arg.given.items in
+    let same = c.loop-arg.invariant.grown.names in
+    let mid = c.loop-arg.scope in
+    let late = c.take_one.new.scope in
+    let first = c.cost_laws.ensures.older s mid c.in_order.ensures c.in_order-in-loop-arg.ensures c.loop-arg.invariant.grown in
+    let fewer = args_less s mid same (names_live s c.in_order.ensures.whole) first (argument_of x none) in
+    let taken_so : taken mid.names a so_far ≡ Ok (mid.arrays, gs) = subst (λ (n : Names). taken n a so_far ≡ Ok (mid.arrays, gs)) (sym same) (c.loop-arg.invariant.so_far a front before) in
+    let due : Vec Given Global → ℕ = λ all. ready_all late all.items in
+    let held = ready_all s c.args.given.items in
+    let one = c.in_ok-one.ensures.within a so_far gs taken_so in
+    let next = subst (λ (n : Names). taken n a (argument_of x so_far) ≡ Ok (late.arrays, gs ++ argument c.in_ok-one.one ∷ [])) same (c.in_ok-one.ensures.value a so_far gs taken_so) in
+    let came_so : size_in (args_evaluated s.names a (argument_of x so_far)) ≡ size_in late.arrays = ap (λ (y : Taken). size_in (came y (args_left s.names a (argument_of x so_far)))) next in
+    let refused = taken_refused s mid late.arrays xs c.loop-arg.given.items x i held c.args.steps.now c.loop-arg.steps c.take_one.new.steps (omega arith) c.arg-item.is fewer c.loop-arg.invariant.within (omega (arith, one)) in
+    let part = up_to_part s.names a xs front i x (omega arith) c.arg-item.is in
+    pays_fault due (argued_steps s (args_of xs none) + held) s late (args_evaluated s.names a (args_of xs front)) c.args.steps.now c.take_one.new.steps NoMemory c.from_residual-in_err-push.result c.from_residual-in_err-push.ensures.1
+    (omega (arith, refused, part, came_so))

@@ -1,10 +1,10 @@
-use Rattle.std.proofs.Common.{rules, ◌≡◌, ◌+◌, [], true, sym, ap, subst, ◌∙◌}
+use Rattle.std.proofs.Common.{rules, ◌≡◌, ◌+◌, true, ap, subst}
 use Rattle.pdl_flow.specs.Formula.{tree_of as formula_tree}
 use Rattle.pdl_syntax.specs.Tree.{Tree, binary, call, none}
 use Rattle.pdl_syntax.specs.TreeOf.{tree_of, args_of}
 use Rattle.pdl_syntax.specs.Formulas.{is_formula}
 use Rattle.pdl_syntax.specs.WellMade.{AreArrays}
-use Rattle.pdl_machine.specs.Formulas.{formula_of, operand_of}
+use Rattle.pdl_machine.specs.Formulas.{formula_of}
 use Rattle.pdl_session.proofs.Evals.{weight, weights, binary_tree, tree_is}
 use Rattle.pdl_session.proofs.Formed.{binary_formed, both_formulas, convert_formed, convert_refused, forms_fault, no_operand, one_formula}
 use Rattle.pdl_session.proofs.flowing.+formula.Goals as goal

@@ -1,4 +1,4 @@
-use Rattle.std.proofs.Common.{◌≡◌, ℕ, ◌+◌, ◌≤◌, List, [], Err, Vec, Global, arith, sym, ap, subst, ◌∙◌}
+use Rattle.std.proofs.Common.{◌≡◌, ◌+◌, ◌≤◌, List, [], arith, sym, ap, subst, ◌∙◌}
 use Rattle.pdl_syntax.specs.Tree.{none}
 use Rattle.pdl_syntax.specs.TreeOf.{args_of}
 use Rattle.pdl_session.specs.Arguments.{arguments}
@@ -7,8 +7,7 @@ use Rattle.pdl_machine.specs.Cuts.{dims_given}
 use Rattle.pdl_scope.specs.Costs.{total_size}
 use Rattle.pdl_scope.specs.Scope.{engine_of, machine}
 use Rattle.pdl_session.specs.declared.given.Given.{Given}
-use Rattle.pdl_session.specs.Came.{args_left}
-use Rattle.pdl_session.specs.Costs.{PaysWithin, argued_steps, read_all, ready_all}
+use Rattle.pdl_session.specs.Costs.{argued_steps, read_all, ready_all}
 use Rattle.pdl_session.specs.Moves.{wanted_size}
 use Rattle.pdl_session.proofs.Moves.{reshaped_within, sizes_refused, sizes_unknown}
 use Rattle.pdl_session.proofs.Cutting.{runs_reshaped, reshape_refused}
@@ -45,19 +44,13 @@ returns-in_ok-given-in-Some-clause-within g c =
     let H : List Given → Type 0 = λ hs. c.resized.new.steps ≤ c.take.new.steps + (read_all mid hs + (ready_steps (engine_of mid) id + wanted_size (dims_given (mid.arrays, arguments hs)))) in
     let counted : H gs = subst H c.deref.ensures.value c.resized.ensures.counted in
     let costs = c.cost_laws.ensures.older s mid c.in_order.ensures c.in_order-in-Some.ensures c.take.ensures.grown in
-    reshaped_within c.resized.result s mid c.args.name.now args gs (argued_steps s args) c.args.steps.now c.take.new.steps c.resized.new.steps id
+    reshaped_within s mid c.args.name.now args gs (argued_steps s args) c.args.steps.now c.take.new.steps c.resized.new.steps id
     (sym c.number_of.ensures.number ∙ c.in-Some.is) (c.in_ok-given-in-Some.ensures.value s.arrays none (ap (λ hs. with_given s.arrays (arguments hs)) (sym c.new-none.ensures.items))) costs c.in-Some.ensures.live (omega (arith, taken)) counted
 
 pub returns-in_err-given-in-Some-clause-within : goal.returns-in_err-given-in-Some-clause-within
 returns-in_err-given-in-Some-clause-within g c =
     let s = c.args.scope.now in
-    let new = c.take.new.scope in
     let args = args_of c.args.sizes.now none in
-    let f = c.in_err-given-in-Some.field-0.0 in
-    let due : Vec Given Global → ℕ = λ all. ready_all new all.items in
     let none_given : ready_all s c.new-none.result.items ≡ 0 = ap (ready_all s) c.new-none.ensures.items in
-    let most = argued_steps s args + ready_all s c.new-none.result.items in
-    let enough : most ≡ argued_steps s args = omega (arith, none_given) in
-    sizes_refused c.from_residual.result f s new c.args.name.now args due (argued_steps s args) c.args.steps.now c.take.new.steps c.in-Some.id (sym c.number_of.ensures.number ∙ c.in-Some.is) c.from_residual.ensures.1
-    (c.in_err-given-in-Some.ensures.value s.arrays none (ap (λ hs. with_given s.arrays (arguments hs)) (sym c.new-none.ensures.items)))
-    (subst (λ n. PaysWithin due n s new (args_left s.names s.arrays args) c.args.steps.now c.take.new.steps (Err f)) enough (c.in_err-given-in-Some.ensures.within s.arrays none (ap (λ hs. with_given s.arrays (arguments hs)) (sym c.new-none.ensures.items))))
+    let within = c.in_err-given-in-Some.ensures.within s.arrays none (ap (λ hs. with_given s.arrays (arguments hs)) (sym c.new-none.ensures.items)) in
+    sizes_refused s c.args.name.now args (argued_steps s args) c.args.steps.now c.take.new.steps c.in-Some.id (sym c.number_of.ensures.number ∙ c.in-Some.is) (omega (arith, none_given, within))

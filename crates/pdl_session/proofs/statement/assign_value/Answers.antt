@@ -55,8 +55,7 @@ returns-clause-readable g c =
 
 pub returns-in_err-to-clause-within : goal.returns-in_err-to-clause-within
 returns-in_err-to-clause-within g c = λ none.
-    target_left c.from_residual.result c.in_err-to.field-0.0 c.args.scope.now c.assigned_to.new.scope (target c.args.to.now.name (map view_of c.args.to.now.views.items)) (tree_of c.args.value.now) c.args.steps.now c.assigned_to.new.steps
-    c.from_residual.ensures.1 c.in_err-to.ensures.value c.in_err-to.ensures.within
+    target_left c.args.scope.now (target c.args.to.now.name (map view_of c.args.to.now.views.items)) (tree_of c.args.value.now) c.args.steps.now c.assigned_to.new.steps c.in_err-to.ensures.within
 
 pub returns-in_err-from-clause-within : goal.returns-in_err-from-clause-within
 returns-in_err-from-clause-within g c = λ none.
@@ -64,8 +63,8 @@ returns-in_err-from-clause-within g c = λ none.
     let mid = c.assigned_to.new.scope in
     let tree = tree_of c.args.value.now in
     let costs = c.cost_laws.ensures.older s mid c.in_order.ensures c.in_order-2.ensures c.assigned_to.ensures.grown in
-    value_left c.from_residual-in_err-from.result c.in_err-from.field-0.0 s mid c.eval.new.scope (target c.args.to.now.name (map view_of c.args.to.now.views.items)) tree c.args.steps.now c.assigned_to.new.steps c.eval.new.steps c.in_ok-to.to
-    c.from_residual-in_err-from.ensures.1 c.in_ok-to.ensures.value.0 c.assigned_to.ensures.grown.names c.in_err-from.ensures.value c.in_ok-to.ensures.within (names_less s mid c.assigned_to.ensures.grown.names (names_live s c.in_order.ensures.whole) costs tree)
+    value_left s mid (target c.args.to.now.name (map view_of c.args.to.now.views.items)) tree c.args.steps.now c.assigned_to.new.steps c.eval.new.steps c.in_ok-to.to
+    c.in_ok-to.ensures.value.0 c.assigned_to.ensures.grown.names c.in_ok-to.ensures.within (names_less s mid c.assigned_to.ensures.grown.names (names_live s c.in_order.ensures.whole) costs tree)
     c.in_err-from.ensures.within
 
 pub returns-clause-within : goal.returns-clause-within
@@ -79,7 +78,7 @@ returns-clause-within g c = λ none.
     let first = c.cost_laws.ensures.older s mid c.in_order.ensures c.in_order-2.ensures c.assigned_to.ensures.grown in
     let next = c.cost_laws.ensures.older mid late c.in_order-2.ensures c.in_order-3.ensures c.eval.ensures.grown in
     let both = c.cost_laws.ensures.older s late c.in_order.ensures c.in_order-3.ensures all in
-    assigned_within c.assign.result c.growth_laws.ensures.older s mid late (target c.args.to.now.name (map view_of c.args.to.now.views.items)) tree c.args.steps.now c.assigned_to.new.steps c.eval.new.steps c.assign.new.steps c.in_ok-to.to c.in_ok-from.from
+    assigned_within c.growth_laws.ensures.older s mid late (target c.args.to.now.name (map view_of c.args.to.now.views.items)) tree c.args.steps.now c.assigned_to.new.steps c.eval.new.steps c.assign.new.steps c.in_ok-to.to c.in_ok-from.from
     c.in_order.ensures.whole c.in_order-3.ensures.whole c.in_ok-to.ensures.value.0 c.in_ok-to.ensures.value.1 c.in_ok-from.ensures.value.0 c.assigned_to.ensures.grown c.eval.ensures.grown all next both
     c.in_ok-to.ensures.within (names_less s mid c.assigned_to.ensures.grown.names (names_live s c.in_order.ensures.whole) first tree) c.in_ok-from.ensures.within (c.assign.ensures.counted (assigned_affected c.growth_laws.ensures.older s mid late to c.in_ok-to.to c.in_ok-to.ensures.value.0 c.in_ok-to.ensures.value.1 c.assigned_to.ensures.grown c.eval.ensures.grown c.in_order-2.ensures.whole c.in_order-3.ensures.whole ∙ none))
 

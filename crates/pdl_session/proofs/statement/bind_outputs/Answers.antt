@@ -1,17 +1,16 @@
-use Rattle.std.proofs.Common.{List, [], arith, length, refl, sym, subst}
+use Rattle.std.proofs.Common.{List, [], arith, length, refl, subst}
 use Rattle.pdl_buf.specs.declared.made.Made.{Made}
 use Rattle.pdl_machine.specs.Step.{roots_bound}
 use Rattle.pdl_scope.specs.Scope.{machine}
 use Rattle.pdl_scope.specs.Growth.{reads_grow}
 use Rattle.pdl_scope.specs.Answers.{Runs}
-use Rattle.pdl_machine.specs.Arrays.{Arrays}
+use Rattle.pdl_scope.specs.Costs.{MovesUpTo, arrays_after}
 use Rattle.pdl_session.specs.Arguments.{arguments}
-use Rattle.pdl_session.specs.Costs.{LeavesWithin, ready_all}
-use Rattle.pdl_session.specs.Came.{unbound}
-use Rattle.pdl_session.proofs.Expressions.{read_all_le, reading_refused}
+use Rattle.pdl_session.specs.Costs.{ready_all}
+use Rattle.pdl_session.proofs.Expressions.{read_all_le}
 use Rattle.pdl_session.proofs.Facts.{ends_at}
-use Rattle.pdl_session.proofs.Moves.{output_left, output_within, outputs_within, unbound_many}
-use Rattle.pdl_session.proofs.Statements.{runs_output, output_refused, runs_several, several_refused}
+use Rattle.pdl_session.proofs.Moves.{output_refused_within, output_within, outputs_refused_within, outputs_within}
+use Rattle.pdl_session.proofs.Statements.{runs_output, output_refused, runs_several, several_read, several_refused}
 use Rattle.pdl_session.proofs.statement.bind_outputs.Goals as goal
 
 pub returns-in_err-outputs-clause-runs : goal.returns-in_err-outputs-clause-runs
@@ -46,30 +45,28 @@ returns-clause-runs g c =
 pub returns-in_err-outputs-clause-within : goal.returns-in_err-outputs-clause-within
 returns-in_err-outputs-clause-within g c =
     let s = c.args.scope.now in
-    let given = arguments c.args.given.now in
-    let most = ready_all s c.args.given.now in
     let less = read_all_le s c.args.given.now in
-    let left = unbound_many s.names c.args.bound.now c.args.function.now (s.arrays, given) c.if-bound-ne1.true in
-    subst (λ (a : Arrays). LeavesWithin most s c.several.new.scope a c.args.steps.now c.several.new.steps c.from_residual.result) (sym left)
-    (reading_refused (λ u. 0) s c.several.new.scope most c.args.steps.now c.several.new.steps c.from_residual.result c.in_err-outputs.field-0.0 c.from_residual.ensures.1 (omega (arith, less, c.several.ensures.counted)))
+    outputs_refused_within s c.args.bound.now c.args.function.now (arguments c.args.given.now) (ready_all s c.args.given.now) c.args.steps.now c.several.new.steps (omega (arith, less, c.several.ensures.counted))
 
 pub returns-then-bound-ne1-clause-within : goal.returns-then-bound-ne1-clause-within
 returns-then-bound-ne1-clause-within g c =
     let s = c.args.scope.now in
-    let given = arguments c.args.given.now in
+    let mid = c.several.new.scope in
+    let xs = c.args.bound.now in
+    let ms = c.in_ok-outputs.outputs.items in
     let less = read_all_le s c.args.given.now in
-    let left = unbound_many s.names c.args.bound.now c.args.function.now (s.arrays, given) c.if-bound-ne1.true in
-    outputs_within c.bind_roots.result (λ u. 0) s c.several.new.scope c.bind_roots.new.self (unbound s.names c.args.bound.now c.args.function.now (s.arrays, given)) (ready_all s c.args.given.now) c.args.steps.now c.several.new.steps c.bind_roots.new.steps
-    (λ u. refl) left (omega (arith, less, c.several.ensures.counted)) c.several.ensures.same.arrays c.bind_roots.ensures.within c.bind_roots.ensures.refused
+    let is = several_read s mid xs c.args.function.now c.args.given.now (length xs) ms c.if-bound-ne1.true refl c.in_ok-outputs.ensures.value c.several.ensures.same in
+    let W : List Made → Type 0 = λ outputs. MovesUpTo 0 mid (arrays_after (roots_bound (machine mid) xs outputs) mid.arrays) c.several.new.steps c.bind_roots.new.steps in
+    outputs_within s mid xs c.args.function.now c.args.given.now ms (ready_all s c.args.given.now) c.args.steps.now c.several.new.steps c.bind_roots.new.steps
+    c.if-bound-ne1.true is (omega (arith, less, c.several.ensures.counted)) c.several.ensures.same.arrays (subst W c.deref.ensures.value c.bind_roots.ensures.within)
 
 pub returns-in_err-id-clause-within : goal.returns-in_err-id-clause-within
 returns-in_err-id-clause-within g c =
     let s = c.args.scope.now in
-    output_left c.from_residual-in_err-id.result c.in_err-id.field-0.0 (λ u. 0) s c.call.new.scope c.args.bound.now c.args.function.now (arguments c.args.given.now) (ready_all s c.args.given.now) c.args.steps.now c.call.new.steps
-    c.from_residual-in_err-id.ensures.1 c.if-bound-ne1.false c.in_err-id.ensures.value c.in_err-id.ensures.within
+    output_refused_within s c.args.bound.now c.args.function.now (arguments c.args.given.now) (ready_all s c.args.given.now) c.args.steps.now c.call.new.steps c.if-bound-ne1.false c.in_err-id.ensures.within
 
 pub returns-clause-within : goal.returns-clause-within
 returns-clause-within g c =
     let s = c.args.scope.now in
-    output_within c.bind.result (λ u. 0) s c.call.new.scope c.bind.new.self c.args.bound.now c.args.function.now (arguments c.args.given.now) (ready_all s c.args.given.now) c.args.steps.now c.call.new.steps c.in_ok-id.id
-    (λ u. refl) c.if-bound-ne1.false c.in_ok-id.ensures.value.0 c.in_ok-id.ensures.within c.bind.ensures.arrays
+    output_within s c.call.new.scope c.args.bound.now c.args.function.now (arguments c.args.given.now) (ready_all s c.args.given.now) c.args.steps.now c.call.new.steps c.in_ok-id.id
+    c.if-bound-ne1.false c.in_ok-id.ensures.value.0 c.in_ok-id.ensures.within

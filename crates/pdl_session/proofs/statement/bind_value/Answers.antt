@@ -1,11 +1,8 @@
-use Rattle.std.proofs.Common.{arith}
-use Rattle.pdl_engine.specs.State.{ready_steps}
-use Rattle.pdl_scope.specs.Scope.{engine_of}
 use Rattle.pdl_syntax.specs.TreeOf.{tree_of}
 use Rattle.pdl_machine.specs.Value.{value_of}
 use Rattle.pdl_session.specs.Costs.{named_steps}
 use Rattle.pdl_session.specs.Came.{parts_left}
-use Rattle.pdl_session.proofs.Moves.{bound_within, given_refused}
+use Rattle.pdl_session.proofs.Moves.{bound_within}
 use Rattle.pdl_session.proofs.Statements.{runs_bound}
 use Rattle.pdl_session.proofs.statement.bind_value.Goals as goal
 
@@ -18,11 +15,7 @@ pub returns-clause-within : goal.returns-clause-within
 returns-clause-within g c =
     let s = c.args.scope.now in
     let tree = tree_of c.args.value.now in
-    bound_within c.bind.result s c.eval.new.scope (value_of s.names s.arrays tree) (parts_left s.names s.arrays tree) (named_steps s tree) c.args.steps.now c.eval.new.steps c.in_ok-id.id c.in_ok-id.ensures.value.0 c.in_ok-id.ensures.within
+    bound_within s c.eval.new.scope (value_of s.names s.arrays tree) (parts_left s.names s.arrays tree) (named_steps s tree) c.args.steps.now c.eval.new.steps c.in_ok-id.id c.in_ok-id.ensures.value.0 c.in_ok-id.ensures.within
 
 pub returns-in_err-id-clause-within : goal.returns-in_err-id-clause-within
-returns-in_err-id-clause-within g c =
-    let s = c.args.scope.now in
-    let tree = tree_of c.args.value.now in
-    given_refused c.from_residual.result c.in_err-id.field-0.0 s c.eval.new.scope (value_of s.names s.arrays tree) (parts_left s.names s.arrays tree) (ready_steps (engine_of c.eval.new.scope)) (named_steps s tree) (named_steps s tree) c.args.steps.now c.eval.new.steps
-    c.from_residual.ensures.1 c.in_err-id.ensures.value (omega arith) c.in_err-id.ensures.within
+returns-in_err-id-clause-within g c = c.in_err-id.ensures.within

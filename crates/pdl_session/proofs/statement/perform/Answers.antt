@@ -1,19 +1,16 @@
-use Rattle.std.proofs.Common.{ℕ, ◌∙◌, List, [], Vec, Global, Bool, true, false, Result, Ok, Err, map, sym, subst}
+use Rattle.std.proofs.Common.{ℕ, ◌∙◌, List, Bool, true, false, Ok, map, sym, subst}
 use Rattle.pdl_syntax.specs.declared.tree.Statement.{Statement}
 use Rattle.pdl_syntax.specs.declared.tree.Arg.{Arg}
-use Rattle.pdl_syntax.specs.StatementTree.{assign, bind, bind_list, flow, pp_def, reshape, sever, statement_of, undef, view_of, watch}
+use Rattle.pdl_syntax.specs.StatementTree.{bind, bind_list, flow, pp_def, reshape, sever, statement_of, undef, view_of, watch}
 use Rattle.pdl_syntax.specs.Tree.{none}
 use Rattle.pdl_syntax.specs.TreeOf.{args_of, tree_of}
-use Rattle.pdl_watch.specs.declared.notice.Notice.{Notice}
 use Rattle.pdl_watch.specs.Slots.{present_in, slots_by}
 use Rattle.pdl_machine.specs.Step.{Stepped, assigning, effect, target}
 use Rattle.pdl_scope.specs.Answers.{Prints}
 use Rattle.pdl_scope.specs.Scope.{machine}
-use Rattle.pdl_session.specs.Came.{sides_evaluated}
-use Rattle.pdl_session.specs.Moves.{assign_steps}
 use Rattle.pdl_session.specs.Performed.{Performs}
 use Rattle.pdl_session.specs.Statements.{MovesByForm}
-use Rattle.pdl_session.proofs.Moves.{up_to_fault}
+use Rattle.pdl_session.proofs.Dumped.{dump_within}
 use Rattle.pdl_session.proofs.Statements.{silent, silent_err}
 use Rattle.pdl_session.proofs.statement.perform.Goals as goal
 
@@ -116,58 +113,53 @@ returns-in_err-all-in-Assign-clause-performs g c =
 
 pub returns-in-Show-clause-bounded : goal.returns-in-Show-clause-bounded
 returns-in-Show-clause-bounded g c =
-    subst (λ (z : Statement). MovesByForm (statement_of z) c.args.scope.now c.args.steps.now c.show.new.steps c.show.result) (sym c.in-Show.is) c.show.ensures.within
+    subst (λ (z : Statement). MovesByForm (statement_of z) c.args.scope.now c.args.steps.now c.show.new.steps) (sym c.in-Show.is) c.show.ensures.within
 
 pub returns-in-Dump-clause-bounded : goal.returns-in-Dump-clause-bounded
 returns-in-Dump-clause-bounded g c =
-    subst (λ (z : Statement). MovesByForm (statement_of z) c.args.scope.now c.args.steps.now c.dump.new.steps c.dump.result) (sym c.in-Dump.is) c.dump.ensures.counted
+    subst (λ (z : Statement). MovesByForm (statement_of z) c.args.scope.now c.args.steps.now c.dump.new.steps) (sym c.in-Dump.is)
+    (dump_within c.args.scope.now c.dump.new.scope c.args.steps.now c.dump.new.steps _ c.dump.ensures.counted c.dump.ensures.unmoved)
 
 pub returns-in-BindList-clause-bounded : goal.returns-in-BindList-clause-bounded
 returns-in-BindList-clause-bounded g c =
     let s = c.args.scope.now in
-    let P : Statement → Type 0 = λ z. MovesByForm (statement_of z) s c.args.steps.now c.bind_list.new.steps c.bind_list.result in
-    let Q : List (List ℕ) → Type 0 = λ xs. MovesByForm (bind_list xs (tree_of c.in-BindList.value)) s c.args.steps.now c.bind_list.new.steps c.bind_list.result in
+    let P : Statement → Type 0 = λ z. MovesByForm (statement_of z) s c.args.steps.now c.bind_list.new.steps in
+    let Q : List (List ℕ) → Type 0 = λ xs. MovesByForm (bind_list xs (tree_of c.in-BindList.value)) s c.args.steps.now c.bind_list.new.steps in
     subst P (sym c.in-BindList.is) (subst Q c.deref.ensures.value c.bind_list.ensures.within)
 
 pub returns-in-Sever-clause-bounded : goal.returns-in-Sever-clause-bounded
 returns-in-Sever-clause-bounded g c =
-    subst (λ (z : Statement). MovesByForm (statement_of z) c.args.scope.now c.args.steps.now c.sever.new.steps c.sever.result) (sym c.in-Sever.is) c.sever.ensures.counted
+    subst (λ (z : Statement). MovesByForm (statement_of z) c.args.scope.now c.args.steps.now c.sever.new.steps) (sym c.in-Sever.is) c.sever.ensures.counted
 
 pub returns-in-Flow-clause-bounded : goal.returns-in-Flow-clause-bounded
 returns-in-Flow-clause-bounded g c =
-    subst (λ (z : Statement). MovesByForm (statement_of z) c.args.scope.now c.args.steps.now c.flow.new.steps c.flow.result) (sym c.in-Flow.is) c.flow.ensures.within
+    subst (λ (z : Statement). MovesByForm (statement_of z) c.args.scope.now c.args.steps.now c.flow.new.steps) (sym c.in-Flow.is) c.flow.ensures.within
 
 pub returns-in-Bind-default-default-true-clause-bounded : goal.returns-in-Bind-default-default-true-clause-bounded
 returns-in-Bind-default-default-true-clause-bounded g c =
     let s = c.args.scope.now in
-    let P : Statement → Type 0 = λ z. MovesByForm (statement_of z) s c.args.steps.now c.bind_severed.new.steps c.bind_severed.result in
-    let Q : Bool → Type 0 = λ b. MovesByForm (bind c.in-Bind-default-default-true.name (tree_of c.in-Bind-default-default-true.value) b) s c.args.steps.now c.bind_severed.new.steps c.bind_severed.result in
+    let P : Statement → Type 0 = λ z. MovesByForm (statement_of z) s c.args.steps.now c.bind_severed.new.steps in
+    let Q : Bool → Type 0 = λ b. MovesByForm (bind c.in-Bind-default-default-true.name (tree_of c.in-Bind-default-default-true.value) b) s c.args.steps.now c.bind_severed.new.steps in
     subst P (sym c.in-Bind-default-default-true.is) (subst Q (sym c.in-Bind-default-default-true.sever-test ∙ c.in-Bind-default-default-true.sever-is) c.bind_severed.ensures.within)
 
 pub returns-in-Bind-default-default-false-clause-bounded : goal.returns-in-Bind-default-default-false-clause-bounded
 returns-in-Bind-default-default-false-clause-bounded g c =
     let s = c.args.scope.now in
-    let P : Statement → Type 0 = λ z. MovesByForm (statement_of z) s c.args.steps.now c.bind_value.new.steps c.bind_value.result in
-    let Q : Bool → Type 0 = λ b. MovesByForm (bind c.in-Bind-default-default-false.name (tree_of c.in-Bind-default-default-false.value) b) s c.args.steps.now c.bind_value.new.steps c.bind_value.result in
+    let P : Statement → Type 0 = λ z. MovesByForm (statement_of z) s c.args.steps.now c.bind_value.new.steps in
+    let Q : Bool → Type 0 = λ b. MovesByForm (bind c.in-Bind-default-default-false.name (tree_of c.in-Bind-default-default-false.value) b) s c.args.steps.now c.bind_value.new.steps in
     subst P (sym c.in-Bind-default-default-false.is) (subst Q (sym c.in-Bind-default-default-false.sever-test ∙ c.in-Bind-default-default-false.sever-is) c.bind_value.ensures.within)
 
 pub returns-in-Reshape-clause-bounded : goal.returns-in-Reshape-clause-bounded
 returns-in-Reshape-clause-bounded g c =
     let s = c.args.scope.now in
-    let P : Statement → Type 0 = λ z. MovesByForm (statement_of z) s c.args.steps.now c.reshape.new.steps c.reshape.result in
-    let Q : List Arg → Type 0 = λ xs. MovesByForm (reshape c.in-Reshape.name (args_of xs none)) s c.args.steps.now c.reshape.new.steps c.reshape.result in
+    let P : Statement → Type 0 = λ z. MovesByForm (statement_of z) s c.args.steps.now c.reshape.new.steps in
+    let Q : List Arg → Type 0 = λ xs. MovesByForm (reshape c.in-Reshape.name (args_of xs none)) s c.args.steps.now c.reshape.new.steps in
     subst P (sym c.in-Reshape.is) (subst Q c.deref-in-Reshape.ensures.value c.reshape.ensures.within)
 
 pub returns-in_ok-all-in-Assign-clause-bounded : goal.returns-in_ok-all-in-Assign-clause-bounded
 returns-in_ok-all-in-Assign-clause-bounded g c =
-    subst (λ (z : Statement). MovesByForm {T = Unit {0}} (statement_of z) c.args.scope.now c.args.steps.now c.assign_value.new.steps (Ok tt)) (sym c.in-Assign.is) c.in_ok-all-in-Assign.ensures.within
+    subst (λ (z : Statement). MovesByForm (statement_of z) c.args.scope.now c.args.steps.now c.assign_value.new.steps) (sym c.in-Assign.is) c.in_ok-all-in-Assign.ensures.within
 
 pub returns-in_err-all-in-Assign-clause-bounded : goal.returns-in_err-all-in-Assign-clause-bounded
 returns-in_err-all-in-Assign-clause-bounded g c =
-    let s = c.args.scope.now in
-    let t = c.in-Assign.target in
-    let place = target t.name (map view_of t.views.items) in
-    let tree = tree_of c.in-Assign.value in
-    let f = c.in_err-all-in-Assign.field-0.0 in
-    subst (λ (z : Statement). MovesByForm (statement_of z) s c.args.steps.now c.assign_value.new.steps c.from_residual.result) (sym c.in-Assign.is)
-    (λ none. up_to_fault (Vec (Vec Notice Global) Global) c.from_residual.result f (assign_steps s place tree) s (sides_evaluated s place tree) c.args.steps.now c.assign_value.new.steps c.from_residual.ensures.1 (c.in_err-all-in-Assign.ensures.within none))
+    subst (λ (z : Statement). MovesByForm (statement_of z) c.args.scope.now c.args.steps.now c.assign_value.new.steps) (sym c.in-Assign.is) c.in_err-all-in-Assign.ensures.within

@@ -1,17 +1,17 @@
-use Rattle.std.proofs.Common.{ℕ, [], Ok, arith}
-use Rattle.pdl_engine.specs.State.{ready_steps}
+use Rattle.std.proofs.Common.{ℕ, [], Ok}
 use Rattle.pdl_machine.specs.Arrays.{Arrays}
 use Rattle.pdl_machine.specs.Step.{Stepped, after_printing}
 use Rattle.pdl_machine.specs.Then.{and_then}
-use Rattle.pdl_scope.specs.Scope.{engine_of, machine}
+use Rattle.pdl_scope.specs.Scope.{machine}
 use Rattle.pdl_session.proofs.Facts.{ends_at, first_fault}
-use Rattle.pdl_session.proofs.Statements.{silent}
+use Rattle.pdl_scope.specs.Growth.{grows_trans, reads_grow}
+use Rattle.pdl_session.proofs.Statements.{silent, falls_short}
 use Rattle.pdl_syntax.specs.TreeOf.{tree_of}
-use Rattle.pdl_session.proofs.Bounded.{shown_plainly, unshown_plainly, shown_readable}
+use Rattle.pdl_session.proofs.Bounded.{unshown_plainly}
 use Rattle.pdl_session.specs.Costs.{named_steps}
 use Rattle.pdl_machine.specs.Value.{value_of}
 use Rattle.pdl_session.specs.Came.{parts_left}
-use Rattle.pdl_session.proofs.Moves.{given_refused, shown_within}
+use Rattle.pdl_session.proofs.Moves.{shown_within}
 use Rattle.pdl_session.proofs.statement.show.Goals as goal
 
 pub returns-in_err-id-clause-moves : goal.returns-in_err-id-clause-moves
@@ -32,11 +32,18 @@ pub returns-clause-within : goal.returns-clause-within
 returns-clause-within g c =
     let s = c.args.scope.now in
     let tree = tree_of c.args.value.now in
-    shown_within {T = Unit {0}} (Ok tt) s c.eval.new.scope (value_of s.names s.arrays tree) (parts_left s.names s.arrays tree) (named_steps s tree) c.args.steps.now c.eval.new.steps c.print.new.steps c.in_ok-id.id c.in_ok-id.ensures.value.0 c.in_ok-id.ensures.within c.print.ensures.counted
+    shown_within s c.eval.new.scope (value_of s.names s.arrays tree) (parts_left s.names s.arrays tree) (named_steps s tree) c.args.steps.now c.eval.new.steps c.print.new.steps c.in_ok-id.id c.in_ok-id.ensures.value.0 c.in_ok-id.ensures.within c.print.ensures.counted
 
 pub returns-in_err-id-clause-within : goal.returns-in_err-id-clause-within
-returns-in_err-id-clause-within g c =
+returns-in_err-id-clause-within g c = c.in_err-id.ensures.within
+
+pub returns-in_err-print-clause-within : goal.returns-in_err-print-clause-within
+returns-in_err-print-clause-within g c =
     let s = c.args.scope.now in
     let tree = tree_of c.args.value.now in
-    given_refused c.from_residual.result c.in_err-id.field-0.0 s c.eval.new.scope (value_of s.names s.arrays tree) (parts_left s.names s.arrays tree) (ready_steps (engine_of c.eval.new.scope)) (named_steps s tree) (named_steps s tree) c.args.steps.now c.eval.new.steps
-    c.from_residual.ensures.1 c.in_err-id.ensures.value (omega arith) c.in_err-id.ensures.within
+    shown_within s c.eval.new.scope (value_of s.names s.arrays tree) (parts_left s.names s.arrays tree) (named_steps s tree) c.args.steps.now c.eval.new.steps c.print.new.steps c.in_ok-id.id c.in_ok-id.ensures.value.0 c.in_ok-id.ensures.within c.print.ensures.counted
+
+pub returns-in_err-print-clause-performs : goal.returns-in_err-print-clause-performs
+returns-in_err-print-clause-performs g c =
+    falls_short _ _ _ _ _ _ c.from_residual-in_err-print.ensures.1
+    (grows_trans _ _ _ c.eval.ensures.grown (reads_grow _ _ c.print.ensures.same)) c.print.ensures.front

@@ -1,19 +1,13 @@
-use Rattle.std.proofs.Common.{◌≡◌, Ok, Err, sym, subst}
-use Rattle.std.specs.Prelude.{map, true, false}
+use Rattle.std.specs.Prelude.{map}
 use Rattle.pdl_syntax.specs.StatementTree.{view_of}
-use Rattle.pdl_machine.specs.Outcome.{Valued}
-use Rattle.pdl_machine.specs.Step.{target, target_in, unless_flow}
+use Rattle.pdl_machine.specs.Step.{target, unless_flow}
 use Rattle.pdl_machine.specs.Value.{value_of}
-use Rattle.pdl_scope.specs.Answers.{Evaluates}
-use Rattle.pdl_scope.specs.Scope.{machine}
 use Rattle.pdl_engine.specs.State.{ready_steps}
-use Rattle.pdl_machine.specs.declared.fault.Fault.TheVariants.{FlowTarget}
 use Rattle.pdl_scope.specs.Scope.{engine_of}
-use Rattle.pdl_session.specs.Came.{evaluated, parts_left}
+use Rattle.pdl_session.specs.Came.{evaluated}
 use Rattle.pdl_session.specs.Costs.{named_steps}
-use Rattle.pdl_session.proofs.Expressions.{came_first, left_first, pays_fault}
+use Rattle.pdl_session.proofs.Expressions.{pays_fault}
 use Rattle.pdl_session.proofs.Facts.{first_fault, hands_on}
-use Rattle.pdl_session.proofs.Targets.{aimed_at}
 use Rattle.pdl_session.proofs.target.assigned_to.Goals as goal
 
 pub returns-in_err-id-clause-value : goal.returns-in_err-id-clause-value
@@ -29,8 +23,4 @@ returns-in_err-id-clause-within g c =
     let s = c.args.scope.now in
     let to = target c.args.to.now.name (map view_of c.args.to.now.views.items) in
     let new = c.target.new.scope in
-    let f = c.in_err-id.field-0.0 in
-    let owed = ready_steps (engine_of new) in
-    let left = parts_left s.names s.arrays to in
-    pays_fault owed owed (named_steps s to) s new (evaluated s.names s.arrays to) c.args.steps.now c.target.new.steps f c.from_residual.result c.from_residual.ensures.1
-    (left_first owed (named_steps s to) s new (value_of s.names s.arrays to) left (λ a. a) c.args.steps.now c.target.new.steps f c.in_err-id.ensures.value c.in_err-id.ensures.within)
+    pays_fault (ready_steps (engine_of new)) (named_steps s to) s new (evaluated s.names s.arrays to) c.args.steps.now c.target.new.steps c.in_err-id.field-0.0 c.from_residual.result c.from_residual.ensures.1 c.in_err-id.ensures.within

@@ -1,26 +1,25 @@
-use Rattle.std.proofs.Common.{refl, ◌≡◌, ◌<◌, ◌+◌, List, Ok, Err, get_or, length, take, sym, ap, subst, ◌∙◌, arith}
+use Rattle.std.proofs.Common.{refl, ◌≡◌, ◌<◌, ◌+◌, List, Ok, get_or, length, take, sym, ap, subst, ◌∙◌, arith}
 use Rattle.std.specs.Prelude.{map}
 use Rattle.std.proofs.lemmas.List.{length-map, get_or-map}
 use Rattle.pdl_syntax.specs.declared.tree.ViewCall.{ViewCall}
 use Rattle.pdl_syntax.specs.WellMade.{AreArgArrays}
 use Rattle.pdl_syntax.specs.StatementTree.{View, view_of}
 use Rattle.pdl_machine.specs.declared.fault.Fault.TheVariants.{UnknownName}
-use Rattle.pdl_machine.specs.Arrays.{Arrays}
 use Rattle.pdl_machine.specs.Names.{Names}
-use Rattle.pdl_syntax.specs.Tree.{named}
 use Rattle.pdl_machine.specs.Step.{target}
 use Rattle.pdl_machine.specs.Value.{known, value_of}
 use Rattle.pdl_scope.specs.declared.fault.ScopeFault.TheVariants.{Script}
 use Rattle.pdl_scope.specs.Answers.{IsFault}
 use Rattle.pdl_session.proofs.Facts.{hands_on, grows_trans}
 use Rattle.pdl_scope.specs.Growth.{grows_refl}
-use Rattle.pdl_session.proofs.Expressions.{args_less, names_live, unnamed_within}
+use Rattle.pdl_session.proofs.Expressions.{args_less, names_live, pays_fault, unmoved_within}
 use Rattle.pdl_session.proofs.Moves.{named_ready, view_refused, viewed_more, views_part}
 use Rattle.pdl_engine.specs.State.{ready_steps}
 use Rattle.pdl_scope.specs.Scope.{engine_of}
-use Rattle.pdl_session.specs.Came.{parts_left}
-use Rattle.pdl_session.specs.Costs.{EvaluatesWithin, argued_steps, named_steps}
-use Rattle.pdl_session.proofs.Targets.{called, target_more, target_parts, fault_at}
+use Rattle.pdl_scope.specs.Costs.{MovesUpTo}
+use Rattle.pdl_session.specs.Came.{evaluated}
+use Rattle.pdl_session.specs.Costs.{argued_steps, named_steps}
+use Rattle.pdl_session.proofs.Targets.{called, target_more, fault_at}
 use Rattle.pdl_session.proofs.target.target.Goals as goal
 
 pub returns-in-None-clause-value : goal.returns-in-None-clause-value
@@ -104,31 +103,27 @@ loop-view-init g c =
 pub returns-in-None-clause-within : goal.returns-in-None-clause-within
 returns-in-None-clause-within g c =
     let s = c.args.scope.now in
-    let x = c.args.target.now.name in
-    let vs = c.args.target.now.views.items in
-    let all = target x (map view_of vs) in
-    let unknown : value_of s.names s.arrays (named x) ≡ Err UnknownName = ap (known s.arrays) (sym c.number_of.ensures.number ∙ c.in-None.is) in
-    let left : parts_left s.names s.arrays all ≡ s.arrays = target_parts s.names s.arrays x vs 0 UnknownName unknown in
-    let P : Arrays → Type 0 = λ a. EvaluatesWithin (named_steps s all) s s a c.args.steps.now c.args.steps.now (Err (Script UnknownName)) in
-    subst P (sym left) (unnamed_within (named_steps s all) s c.args.steps.now UnknownName)
+    let all = target c.args.target.now.name (map view_of c.args.target.now.views.items) in
+    unmoved_within s.names s all (named_steps s all) c.args.steps.now
 
 pub returns-in_err-id-clause-within : goal.returns-in_err-id-clause-within
 returns-in_err-id-clause-within g c =
     let s = c.args.scope.now in
     let mid = c.loop-view.scope in
+    let new = c.call_on.new.scope in
+    let x = c.args.target.now.name in
     let vs = c.args.target.now.views.items in
     let v = c.view-item.result in
     let at : v ≡ get_or vs c.loop-view.view-index v = subst (λ (l : List ViewCall). v ≡ get_or l c.loop-view.view-index v) c.deref-view-items.ensures.value c.view-item.is in
     let costs = c.cost_laws.ensures.older s mid c.in_order.ensures c.in_order-in-loop-view.ensures c.loop-view.invariant.grown in
     let same = c.loop-view.invariant.grown.names in
     let fewer = args_less s mid same (names_live s c.in_order.ensures.whole) costs (view_of v).1 in
-    let f = c.in_err-id.field-0.0 in
-    let so_far = target c.args.target.now.name (map view_of (take c.loop-view.view-index vs)) in
+    let so_far = target x (map view_of (take c.loop-view.view-index vs)) in
+    let all = target x (map view_of vs) in
     let valued : value_of mid.names s.arrays so_far ≡ Ok (mid.arrays, c.loop-view.id) = subst (λ (n : Names). value_of n s.arrays so_far ≡ Ok (mid.arrays, c.loop-view.id)) (sym same) c.loop-view.invariant.so_far in
-    let fault : IsFault (value_of s.names s.arrays (called so_far (view_of v))) f = subst (λ (n : Names). IsFault (value_of n s.arrays (called so_far (view_of v))) f) same (c.in_err-id.ensures.value s.arrays so_far valued) in
-    let N : Names → Type 0 = λ n. EvaluatesWithin (argued_steps mid (view_of v).1 + ready_steps (engine_of mid) c.loop-view.id) mid c.call_on.new.scope (parts_left n s.arrays (called so_far (view_of v))) c.loop-view.steps c.call_on.new.steps (Err f) in
-    view_refused s mid c.call_on.new.scope c.args.target.now.name vs c.loop-view.view-index v c.args.steps.now c.loop-view.steps c.call_on.new.steps c.loop-view.id f c.from_residual.result (omega arith) at fewer
-    c.loop-view.invariant.within c.from_residual.ensures.1 fault (subst N same (c.in_err-id.ensures.within s.arrays so_far valued))
+    let N : Names → Type 0 = λ n. MovesUpTo (argued_steps mid (view_of v).1 + ready_steps (engine_of mid) c.loop-view.id) mid (evaluated n s.arrays (called so_far (view_of v))) c.loop-view.steps c.call_on.new.steps in
+    pays_fault (ready_steps (engine_of new)) (named_steps s all) s new (evaluated s.names s.arrays all) c.args.steps.now c.call_on.new.steps c.in_err-id.field-0.0 c.from_residual.result c.from_residual.ensures.1
+    (view_refused s mid x vs c.loop-view.view-index v c.args.steps.now c.loop-view.steps c.call_on.new.steps c.loop-view.id (omega arith) at fewer c.loop-view.invariant.within (subst N same (c.in_err-id.ensures.within s.arrays so_far valued)))
 
 pub returns-clause-within : goal.returns-clause-within
 returns-clause-within g c =

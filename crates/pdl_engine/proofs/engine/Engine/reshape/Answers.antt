@@ -9,16 +9,13 @@ use Rattle.pdl_nodes.specs.Rows.{Rows, has}
 use Rattle.pdl_engine.specs.Held.{ChangesFamily, FamilyIsSettled}
 use Rattle.pdl_engine.specs.State.{State, StayFresh, outdated, waiting, waiting_size}
 use Rattle.pdl_engine.specs.StateOf.{state_of}
-use Rattle.pdl_engine.proofs.Changed.{below_most, broken_by, changed_engine, changed_settled, changed_state, refused_fresh, steps_are, rooted_bases, reshaped_sound, reshaped_lent, unchanged_by}
+use Rattle.pdl_engine.proofs.Changed.{broken_by, changed_engine, changed_settled, changed_state, refused_fresh, steps_are, rooted_bases, reshaped_sound, reshaped_lent, unchanged_by}
 use Rattle.pdl_engine.proofs.Stating.{live_has}
 use Rattle.pdl_engine.proofs.Tight.{tight_reshaped}
 use Rattle.pdl_engine.proofs.engine.Engine.reshape.Goals as goal
 
 pub reshape-requires-clause-live : goal.reshape-requires-clause-live
 reshape-requires-clause-live g c = live_has c.row_laws.ensures c.self.inside.table c.args.id (subst (λ (s : State). IsLive s.world c.args.id) (sym c.self.view_is) c.requires)
-
-pub reshape-requires-clause-small : goal.reshape-requires-clause-small
-reshape-requires-clause-small g c = below_most c.row_laws.ensures c.self.inside.table c.self.inside.next c.self.invariant.0.room c.self.invariant.0.below
 
 pub invariant_of-self : goal.invariant_of-self
 invariant_of-self g c = (

@@ -12,16 +12,13 @@ use Rattle.pdl_nodes.specs.Rows.{Rows, has, row_at}
 use Rattle.pdl_engine.specs.Held.{ChangesFamily, FamilyIsSettled}
 use Rattle.pdl_engine.specs.State.{State, StayFresh, outdated, waiting, waiting_size}
 use Rattle.pdl_engine.specs.StateOf.{state_of}
-use Rattle.pdl_engine.proofs.Changed.{changed_engine, changed_settled, changed_state, below_most, refused_fresh, rooted_bases, root_fresh, steps_are, severed_sound}
+use Rattle.pdl_engine.proofs.Changed.{changed_engine, changed_settled, changed_state, refused_fresh, rooted_bases, root_fresh, steps_are, severed_sound}
 use Rattle.pdl_engine.proofs.Stating.{live_has, root_are}
 use Rattle.pdl_engine.proofs.Tight.{tight_severed}
 use Rattle.pdl_engine.proofs.engine.Engine.sever.Goals as goal
 
 pub sever-requires-clause-live : goal.sever-requires-clause-live
 sever-requires-clause-live g c = live_has c.row_laws.ensures c.self.inside.table c.args.id (subst (λ (s : State). IsLive s.world c.args.id) (sym c.self.view_is) c.requires)
-
-pub sever-requires-clause-small : goal.sever-requires-clause-small
-sever-requires-clause-small g c = below_most c.row_laws.ensures c.self.inside.table c.self.inside.next c.self.invariant.0.room c.self.invariant.0.below
 
 pub invariant_of-self : goal.invariant_of-self
 invariant_of-self g c = (

@@ -1,6 +1,10 @@
+use Rattle.std.proofs.Common.{◌∷◌, [], subst}
+use Rattle.pdl_image.specs.Adding.{Adds}
 use Rattle.pdl_image.specs.Lines.{chosen, view_line}
 use Rattle.pdl_image.proofs.draft.Draft.add_chosen.Goals as goal
 
 pub returns : goal.returns
 returns c =
-    rw (← c.self.view_is) (c.add_line.ensures.adds (view_line c.args.name.now c.args.parent.now (chosen c.args.word.now c.args.index.now)) c.in_ok-write_chosen.ensures)
+    let l = view_line c.args.name.now c.args.parent.now (chosen c.args.word.now c.args.index.now) in
+    rw (← c.self.view_is) (subst (λ t. Adds t c.keep_line.new.page.text (l ∷ []) c.keep_line.result) c.write_chosen-made.ensures.text
+    (c.keep_line.ensures.adds l c.write_chosen-made.ensures.line))

@@ -1,6 +1,10 @@
+use Rattle.std.proofs.Common.{◌∷◌, [], subst}
+use Rattle.pdl_image.specs.Adding.{Adds}
 use Rattle.pdl_image.specs.Lines.{root_line}
 use Rattle.pdl_image.proofs.draft.Draft.add_zeros.Goals as goal
 
 pub returns : goal.returns
 returns c =
-    rw (← c.self.view_is) (c.add_line.ensures.adds (root_line c.args.name.now c.args.ty c.args.dims.now) c.in_ok-write_root.ensures)
+    let l = root_line c.args.name.now c.args.ty c.args.dims.now in
+    rw (← c.self.view_is) (subst (λ t. Adds t c.keep_line.new.page.text (l ∷ []) c.keep_line.result) c.write_root-made.ensures.text
+    (c.keep_line.ensures.adds l c.write_root-made.ensures.line))

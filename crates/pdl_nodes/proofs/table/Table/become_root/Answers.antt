@@ -4,7 +4,7 @@ use Rattle.pdl_nodes.specs.Row.{Row, parent_of}
 use Rattle.pdl_nodes.specs.Table.{rows_of}
 use Rattle.pdl_nodes.proofs.table.Table.become_root.Goals as goal
 use Rattle.pdl_nodes.proofs.Calls.{has_key, node_is, changed_one, table_falls}
-use Rattle.pdl_nodes.proofs.Counted.{counted_rooted, counted_same, parent_counted}
+use Rattle.pdl_nodes.proofs.Counted.{counted_rooted, counted_same, parent_noted}
 use Rattle.pdl_nodes.proofs.RenewLoop.{rooted_here, rooted_others}
 use Rattle.pdl_nodes.proofs.Moved.{listed_rooted}
 use Rattle.pdl_nodes.proofs.Listing.{one_listed}
@@ -25,8 +25,11 @@ invariant_of-self c =
           e
           (listed_rooted c.args.id c.args.dims.now c.args.kept.elems c.args.self.now c.self.inside.marked),
       counted_rooted c.args.self.now _ c.args.id c.args.dims.now c.args.kept.elems c.self.inside.children c.take.new.self c.parent-parent.result e (table_falls c.args.self.now c.self.inside.keys c.self.inside.nodes c.self.view_is c.self.invariant.0.0) c.requires.live
-          (c.parent-parent.ensures ∙ ap parent_of (node_is c.args.self.now c.self.inside.keys c.self.inside.nodes c.args.id c.index-key.result.now c.index-node.result.now c.self.view_is c.self.invariant.0.0 c.index-key.ensures c.index-node.ensures)) c.take.ensures.less c.take.ensures.older (counted_same (rows_of c.self.inside.nodes c.self.inside.keys) c.args.self.now c.self.inside.children c.self.view_is c.self.invariant.1),
+          (c.parent-parent.ensures ∙ ap parent_of (node_is c.args.self.now c.self.inside.keys c.self.inside.nodes c.args.id c.index-key.result.now c.index-node.result.now c.self.view_is c.self.invariant.0.0 c.index-key.ensures c.index-node.ensures)) c.take.ensures (counted_same (rows_of c.self.inside.nodes c.self.inside.keys) c.args.self.now c.self.inside.children c.self.view_is c.self.invariant.1),
     )
 
 pub take-requires : goal.take-requires
-take-requires c = record { counted = λ v e. parent_counted c.args.self.now c.args.id v c.self.inside.children c.parent-parent.result (table_falls c.args.self.now c.self.inside.keys c.self.inside.nodes c.self.view_is c.self.invariant.0.0) c.requires.live (c.parent-parent.ensures ∙ ap parent_of (node_is c.args.self.now c.self.inside.keys c.self.inside.nodes c.args.id c.index-key.result.now c.index-node.result.now c.self.view_is c.self.invariant.0.0 c.index-key.ensures c.index-node.ensures)) (counted_same (rows_of c.self.inside.nodes c.self.inside.keys) c.args.self.now c.self.inside.children c.self.view_is c.self.invariant.1) e }
+take-requires c = record {
+  noted = λ v. parent_noted c.args.self.now c.args.id v c.self.inside.children c.parent-parent.result c.requires.live (c.parent-parent.ensures ∙ ap parent_of (node_is c.args.self.now c.self.inside.keys c.self.inside.nodes c.args.id c.index-key.result.now c.index-node.result.now c.self.view_is c.self.invariant.0.0 c.index-key.ensures c.index-node.ensures))
+      (counted_same (rows_of c.self.inside.nodes c.self.inside.keys) c.args.self.now c.self.inside.children c.self.view_is c.self.invariant.1);
+}

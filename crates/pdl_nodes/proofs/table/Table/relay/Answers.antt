@@ -13,7 +13,7 @@ use Rattle.pdl_nodes.specs.Row.{Row}
 use Rattle.pdl_nodes.specs.Rows.{row_at}
 use Rattle.pdl_nodes.specs.Sized.{IsLayout}
 use Rattle.pdl_nodes.specs.Worlds.{world_of}
-use Rattle.pdl_nodes.proofs.Relaying.{fault_breaks, is_there, new_dims_below, relaying_aside, relaying_more, root_not_below, view_below, view_not_below, well_formed_at}
+use Rattle.pdl_nodes.proofs.Relaying.{fault_breaks, is_there, new_dims_below, relaying_aside, relaying_more, well_formed_at}
 use Rattle.pdl_nodes.proofs.table.Table.relay.Goals as goal
 
 pub returns-in_default-new_dims-clause-after : goal.returns-in_default-new_dims-clause-after
@@ -43,21 +43,3 @@ returns-clause-after c =
     let laid : IsLayout c.in-View.trans c.in-Some.above.now c.in_ok-made.made = subst (λ (t : Trans). IsLayout t c.in-Some.above.now c.in_ok-made.made) c.get.ensures c.in_ok-made.ensures.layout in
     let f : Fits c.in-View.trans c.in-Some.above.now c.in_ok-made.made = record { dims = c.dims.result.now; layout = laid; has_dims = c.dims.ensures; limits = c.dims_list-limits.ensures.limits } in
     relaying_more c.breaking_laws.ensures.below c.args.layouts.now c.insert.new.self c.args.self.now c.args.id c.args.dims.now c.args.newer c.in-View.parent c.in-View.trans c.in-View.layout c.in_ok-made.made c.in-Some.above.now c.requires.sound c.requires.before c.requires.live n o b f c.in_ok-insert.ensures.here c.in_ok-insert.ensures.others
-
-pub returns-in_default-clause-below : goal.returns-in_default-clause-below
-returns-in_default-clause-below c =
-    sym (root_not_below c.breaking_laws.ensures.below c.args.self.now c.args.id c.args.newer c.requires.sound c.requires.live (λ q. absurd (omega (arith, q, c.requires.newer)))
-    (λ p t y e. c.in_default.not-View p t y (c.origin.ensures ∙ ap (λ (r : Row). r.origin) c.node.ensures ∙ e)))
-
-pub returns-in_default-new_dims-clause-below : goal.returns-in_default-new_dims-clause-below
-returns-in_default-new_dims-clause-below c =
-    let o : (row_at c.args.self.now c.args.newer).origin ≡ View c.in-View.parent c.in-View.trans c.in-View.layout = ap (λ (r : Row). r.origin) (sym c.node.ensures) ∙ sym c.origin.ensures ∙ c.in-View.is in
-    let n : c.args.newer ≡ c.args.id → ⊥ = λ q. absurd (omega (arith, q, c.requires.newer)) in
-    sym (view_not_below c.breaking_laws.ensures.below c.args.layouts.now c.args.self.now c.args.id c.args.dims.now c.args.newer c.in-View.parent c.in-View.trans c.in-View.layout c.requires.sound c.requires.still c.requires.live n c.requires.before o c.in_default-new_dims.ensures)
-
-pub returns-clause-below : goal.returns-clause-below
-returns-clause-below c =
-    let o : (row_at c.args.self.now c.args.newer).origin ≡ View c.in-View.parent c.in-View.trans c.in-View.layout = ap (λ (r : Row). r.origin) (sym c.node.ensures) ∙ sym c.origin.ensures ∙ c.in-View.is in
-    let n : c.args.newer ≡ c.args.id → ⊥ = λ q. absurd (omega (arith, q, c.requires.newer)) in
-    let b : IsDerivedBelow (world_of c.args.self.now) c.args.id c.args.dims.now c.in-View.parent c.in-Some.above.now = new_dims_below c.breaking_laws.ensures.below c.args.layouts.now c.args.self.now c.args.id c.args.dims.now c.args.newer c.in-View.parent c.in-Some.above.now c.requires.sound (is_there c.args.self.now c.args.id c.requires.still c.requires.top) c.requires.before c.in-Some.ensures in
-    sym (view_below c.breaking_laws.ensures.below c.args.self.now c.args.id c.args.dims.now c.args.newer c.in-View.parent c.in-View.trans c.in-View.layout c.in-Some.above.now c.requires.sound c.requires.live n o b)

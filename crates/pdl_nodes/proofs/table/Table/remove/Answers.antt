@@ -7,7 +7,7 @@ use Rattle.pdl_nodes.specs.Children.{AreCounted}
 use Rattle.pdl_nodes.specs.Table.{IsTable, rows_of}
 use Rattle.pdl_nodes.proofs.table.Table.remove.Goals as goal
 use Rattle.pdl_nodes.proofs.Calls.{node_is, gone, gone_table, is_there, seen, table_falls}
-use Rattle.pdl_nodes.proofs.Counted.{counted_gone, counted_same, parent_counted}
+use Rattle.pdl_nodes.proofs.Counted.{counted_gone, counted_same, parent_noted}
 use Rattle.pdl_nodes.proofs.Listing.{listed_gone}
 use Rattle.pdl_nodes.proofs.Rests.{without_none}
 use Rattle.pdl_nodes.proofs.Shapes.{past_at}
@@ -34,8 +34,8 @@ take-requires c =
     let live : has c.args.self.now c.args.id ≡ true = sym (is_there c.args.self.now c.self.inside.keys c.self.inside.nodes c.args.id c.self.view_is c.self.invariant.0.0) ∙ ap is_some here in
     let p : c.parent-parent.result ≡ parent_of (row_at c.args.self.now c.args.id) = c.parent-parent.ensures ∙ ap parent_of (node_is c.args.self.now c.self.inside.keys c.self.inside.nodes c.args.id c.in-Some.key c.remove-node.result c.self.view_is c.self.invariant.0.0 here c.remove-node.ensures.value) in
     record {
-      counted = λ v e. parent_counted c.args.self.now c.args.id v c.self.inside.children c.parent-parent.result (table_falls c.args.self.now c.self.inside.keys c.self.inside.nodes c.self.view_is c.self.invariant.0.0) live p
-          (counted_same (rows_of c.self.inside.nodes c.self.inside.keys) c.args.self.now c.self.inside.children c.self.view_is c.self.invariant.1) e;
+      noted = λ v. parent_noted c.args.self.now c.args.id v c.self.inside.children c.parent-parent.result live p
+          (counted_same (rows_of c.self.inside.nodes c.self.inside.keys) c.args.self.now c.self.inside.children c.self.view_is c.self.invariant.1);
     }
 
 pub returns-clause-rows : goal.returns-clause-rows
@@ -58,6 +58,6 @@ invariant_of-self-2 c =
         gone_table c.self.inside.keys c.remove.new.self c.self.inside.nodes c.remove-node.new.self c.args.id c.in-Some.key c.self.invariant.0.0 c.remove.ensures.rises here c.remove.ensures.put c.remove-node.ensures.updates,
         subst (λ (t : Rows). AreListed t c.forget.new.self) (sym e) (listed_gone c.args.self.now c.self.inside.marked c.forget.new.self c.args.id c.forget.ensures.stay (subst (λ (t : Rows). AreListed t c.self.inside.marked) c.self.view_is c.self.invariant.0.1)),
       ),
-      counted_gone c.args.self.now _ c.args.id c.self.inside.children c.take.new.self c.parent-parent.result e (table_falls c.args.self.now c.self.inside.keys c.self.inside.nodes c.self.view_is c.self.invariant.0.0) live p c.take.ensures.less c.take.ensures.older
+      counted_gone c.args.self.now _ c.args.id c.self.inside.children c.take.new.self c.parent-parent.result e (table_falls c.args.self.now c.self.inside.keys c.self.inside.nodes c.self.view_is c.self.invariant.0.0) live p c.take.ensures
           (counted_same (rows_of c.self.inside.nodes c.self.inside.keys) c.args.self.now c.self.inside.children c.self.view_is c.self.invariant.1),
     )

@@ -1,7 +1,6 @@
 use Rattle.std.proofs.Common.{◌≡◌, Some, None, is_some, refl, sym, ◌∙◌, ap}
-use Rattle.std.proofs.lemmas.Bool.{eq-eqb, ne_eqb}
 use Rattle.pdl_nodes.specs.Joined.{shown_row}
-use Rattle.pdl_nodes.specs.Renewed.{is_of, layout_at, renewed_in, with_layout}
+use Rattle.pdl_nodes.specs.Renewed.{layout_at, renewed_in, with_layout}
 use Rattle.pdl_nodes.specs.Row.{Row, parent_of, shown_of}
 use Rattle.pdl_nodes.specs.Rows.{row_at}
 use Rattle.pdl_nodes.specs.Table.{rows_of}
@@ -15,9 +14,6 @@ use Rattle.pdl_nodes.proofs.table.Table.renew_one.Goals as goal
 pub returns-in_default-clause-rows : goal.returns-in_default-clause-rows
 returns-in_default-clause-rows c = none_renewed c.args.layouts.now c.args.new c.args.self.now c.args.id (table_falls c.args.self.now c.self.inside.keys c.self.inside.nodes c.self.view_is c.self.invariant.0.0) (λ p e. (let h = c.in_default.ensures in let z : None ≡ Some p = h ∙ ap parent_of c.node.ensures ∙ e in absurd (cc)))
 
-pub returns-in_default-clause-below : goal.returns-in_default-clause-below
-returns-in_default-clause-below c = ap (is_of c.args.self.now c.args.new) (c.in_default.ensures ∙ ap parent_of c.node.ensures)
-
 pub node-above-requires : goal.node-above-requires
 node-above-requires c = record { live = derives_live c.args.layouts.now c.args.self.now c.args.new c.args.id c.in-Some.parent c.requires.can (ap parent_of (sym c.node.ensures) ∙ sym c.in-Some.ensures) }
 
@@ -26,11 +22,6 @@ returns-then-root-new-clause-rows c = none_renewed c.args.layouts.now c.args.new
     (λ p e g. (let z : Some c.in-Some.parent ≡ Some p = c.in-Some.ensures ∙ ap parent_of c.node.ensures ∙ e in
     let w : c.in-Some.parent ≡ p = cc in
     c.if-root-new.true (c.root.ensures ∙ ap (λ (r : Row). r.root) c.node-above.ensures ∙ ap (λ q. (row_at c.args.self.now q).root) w ∙ g)))
-
-pub returns-then-root-new-clause-below : goal.returns-then-root-new-clause-below
-returns-then-root-new-clause-below c =
-    sym (ne_eqb (row_at c.args.self.now c.in-Some.parent).root c.args.new (λ e. c.if-root-new.true (c.root.ensures ∙ ap (λ (r : Row). r.root) c.node-above.ensures ∙ e)))
-    ∙ ap (is_of c.args.self.now c.args.new) (c.in-Some.ensures ∙ ap parent_of c.node.ensures)
 
 pub index-key-requires : goal.index-key-requires
 index-key-requires c = has_key c.args.self.now c.self.inside.keys c.self.inside.nodes c.args.id c.self.view_is c.self.invariant.0.0 c.requires.live
@@ -58,11 +49,6 @@ returns-clause-rows c =
     changed_one (renewed_in c.args.layouts.now c.args.new c.args.self.now c.args.id) c.args.self.now c.self.inside.keys c.self.inside.nodes c.args.id c.index-key.result.now c.index_mut.result.now c.renew.new.self c.self.view_is c.self.invariant.0.0 c.index-key.ensures c.index_mut.ensures.value
     (renewed_by c.args.layouts.now c.args.new c.args.self.now c.args.id c.index_mut.result.now c.renew.new.self c.in-Some.parent (row_at c.args.self.now c.in-Some.parent) here parent refl root made)
     (λ v r n. renewed_others c.args.layouts.now c.args.new c.args.self.now c.args.id v r n)
-
-pub returns-clause-below : goal.returns-clause-below
-returns-clause-below c =
-    sym (eq-eqb (row_at c.args.self.now c.in-Some.parent).root c.args.new (ap (λ (r : Row). r.root) (sym c.node-above.ensures) ∙ sym c.root.ensures ∙ c.if-root-new.false))
-    ∙ ap (is_of c.args.self.now c.args.new) (c.in-Some.ensures ∙ ap parent_of c.node.ensures)
 
 pub invariant_of-self : goal.invariant_of-self
 invariant_of-self c =

@@ -1,14 +1,17 @@
-use Rattle.std.proofs.Common.{rules, ◌≡◌, ◌<◌, ◌≤◌, ◌+◌, ◌^◌, ℕ, [], ◌∷◌, ◌++◌, List, length, map, take, drop, get_or, sym, subst, ap, refl, ◌∙◌, arith}
+use Rattle.std.proofs.Common.{rules, ◌≡◌, ◌<◌, ◌≤◌, ◌+◌, ◌^◌, ℕ, [], ◌∷◌, ◌++◌, List, length, map, take, drop, get_or, Err, sym, subst, ap, refl, ◌∙◌, arith}
 use Rattle.std.proofs.lemmas.List.{drop_more, get_or-take, length-take-le}
 use Rattle.pdl_machine.specs.Names.{Named, names_limit}
 use Rattle.pdl_machine.specs.Arrays.{Arrays}
 use Rattle.pdl_machine.specs.State.{State, AreLive}
+use Rattle.pdl_machine.specs.declared.fault.Fault.TheVariants.{TooManyNames}
 use Rattle.pdl_machine.specs.Step.{Stepped, roots_bound}
 use Rattle.pdl_scope.specs.Growth.{grows_refl, grows_trans}
 use Rattle.pdl_scope.specs.Room.{with_names, new_among}
 use Rattle.pdl_scope.specs.Answers.{Prints}
 use Rattle.pdl_scope.specs.Scope.{arrays_of, machine, names_in, Grows, Scope as Seen}
-use Rattle.pdl_scope.proofs.Newest.{made_first, made_more, root_within}
+use Rattle.pdl_scope.proofs.Newest.{made_first, made_more}
+use Rattle.pdl_scope.specs.Costs.{MovesUpTo, arrays_after}
+use Rattle.pdl_scope.proofs.Bound.{roots_within}
 use Rattle.pdl_scope.proofs.Cuts.{held_same}
 use Rattle.pdl_scope.proofs.Growing.{live_too}
 use Rattle.pdl_scope.proofs.Held.{held_defined}
@@ -39,7 +42,7 @@ loop-i-init g c =
       grown = grows_refl s;
       live = subst L none tt;
       many = ap length (sym none);
-      within = omega arith;
+      fits = subst R (ap names_of c.self.view_is) (fits_all c.self.inside.names.entries bound c.has_room.result c.has_room.ensures c.if-not-has_room.false);
       counted = omega arith;
     }
 
@@ -69,7 +72,7 @@ loop-i-preserved g c =
       room = subst M items (room_left now (named_too (machine mid) more) (named_too (machine mid) last) x rest id next.named is room);
       grown = grows_trans c.args.self.now s mid c.loop-i.invariant.grown c.make_like.ensures.grown;
       live = subst L items (live_too s mid more x id c.make_like.ensures.grown c.loop-i.invariant.live c.in_ok-id.ensures.value.1);
-      within = root_within s mid m c.args.self.now c.args.steps.now c.loop-i.steps c.make_like.new.steps id c.loop-i.invariant.within c.in_ok-id.ensures.value.0 c.make_like.ensures.counted;
+      fits = c.loop-i.invariant.fits;
       counted = made_more c.args.outputs.now i c.args.steps.now c.loop-i.steps c.make_like.new.steps m (omega arith) c.index-outputs-i.is c.loop-i.invariant.counted c.make_like.ensures.counted;
       many = ap length (sym items) ∙ one_longer more (x, id) ∙ ap (λ n. n + 1) c.loop-i.invariant.many;
     }
@@ -154,3 +157,51 @@ returns-in_err-reserve-2-clause-counted g c = made_first c.args.outputs.now c.lo
 
 pub returns-clause-counted : goal.returns-clause-counted
 returns-clause-counted g c = made_first c.args.outputs.now c.loop-i.i c.args.steps.now c.loop-i.steps c.loop-i.invariant.counted
+
+pub returns-then-not-has_room-clause-within : goal.returns-then-not-has_room-clause-within
+returns-then-not-has_room-clause-within g c =
+    let s = c.args.self.now in
+    let none : roots_bound (machine s) c.args.bound.now c.args.outputs.now ≡ Err TooManyNames = (returns-then-not-has_room-clause-runs g c).0 in
+    subst (λ (r : Stepped). MovesUpTo 0 s (arrays_after r s.arrays) c.args.steps.now c.args.steps.now) (sym none) (omega arith)
+
+pub returns-in_err-made-clause-within : goal.returns-in_err-made-clause-within
+returns-in_err-made-clause-within g c =
+    let s = c.args.self.now in
+    let bound = take c.min-count.result c.args.bound.now in
+    let R : Named ℕ → Type 0 = λ names. length names + new_among names bound ≤ names_limit in
+    let fits = subst R (ap names_of c.self.view_is) (fits_all c.self.inside.names.entries bound c.has_room.result c.has_room.ensures c.if-not-has_room.false) in
+    roots_within s c.args.bound.now c.args.outputs.now c.min-count.result 0 c.args.steps.now c.args.steps.now (omega (arith, c.min-count.ensures)) (omega (arith, c.min-count.ensures)) (λ lt. omega (arith, c.min-count.ensures)) fits (omega arith) (omega arith)
+
+pub returns-in_err-name-clause-within : goal.returns-in_err-name-clause-within
+returns-in_err-name-clause-within g c =
+    roots_within c.args.self.now c.args.bound.now c.args.outputs.now c.min-count.result c.loop-i.i c.args.steps.now c.loop-i.steps (omega (arith, c.min-count.ensures)) (omega (arith, c.min-count.ensures)) (λ lt. omega (arith, c.min-count.ensures)) c.loop-i.invariant.fits (omega arith)
+    c.loop-i.invariant.counted
+
+pub returns-in_err-id-clause-within : goal.returns-in_err-id-clause-within
+returns-in_err-id-clause-within g c =
+    let ms = c.args.outputs.now in
+    let i = c.loop-i.i in
+    roots_within c.args.self.now c.args.bound.now c.args.outputs.now c.min-count.result (c.loop-i.i + 1) c.args.steps.now c.make_like.new.steps (omega (arith, c.min-count.ensures)) (omega (arith, c.min-count.ensures)) (λ lt. omega (arith, c.min-count.ensures)) c.loop-i.invariant.fits (omega arith)
+    (made_more ms i c.args.steps.now c.loop-i.steps c.make_like.new.steps c.index-outputs-i.result (omega arith) c.index-outputs-i.is c.loop-i.invariant.counted c.make_like.ensures.counted)
+
+pub returns-in_err-push-clause-within : goal.returns-in_err-push-clause-within
+returns-in_err-push-clause-within g c =
+    let ms = c.args.outputs.now in
+    let i = c.loop-i.i in
+    roots_within c.args.self.now c.args.bound.now c.args.outputs.now c.min-count.result (c.loop-i.i + 1) c.args.steps.now c.make_like.new.steps (omega (arith, c.min-count.ensures)) (omega (arith, c.min-count.ensures)) (λ lt. omega (arith, c.min-count.ensures)) c.loop-i.invariant.fits (omega arith)
+    (made_more ms i c.args.steps.now c.loop-i.steps c.make_like.new.steps c.index-outputs-i.result (omega arith) c.index-outputs-i.is c.loop-i.invariant.counted c.make_like.ensures.counted)
+
+pub returns-in_err-reserve-clause-within : goal.returns-in_err-reserve-clause-within
+returns-in_err-reserve-clause-within g c =
+    roots_within c.args.self.now c.args.bound.now c.args.outputs.now c.min-count.result c.loop-i.i c.args.steps.now c.loop-i.steps (omega (arith, c.min-count.ensures)) (omega (arith, c.min-count.ensures)) (λ lt. omega (arith, c.min-count.ensures)) c.loop-i.invariant.fits (omega arith)
+    c.loop-i.invariant.counted
+
+pub returns-in_err-reserve-2-clause-within : goal.returns-in_err-reserve-2-clause-within
+returns-in_err-reserve-2-clause-within g c =
+    roots_within c.args.self.now c.args.bound.now c.args.outputs.now c.min-count.result c.loop-i.i c.args.steps.now c.loop-i.steps (omega (arith, c.min-count.ensures)) (omega (arith, c.min-count.ensures)) (λ lt. omega (arith, c.min-count.ensures)) c.loop-i.invariant.fits (omega arith)
+    c.loop-i.invariant.counted
+
+pub returns-clause-within : goal.returns-clause-within
+returns-clause-within g c =
+    roots_within c.args.self.now c.args.bound.now c.args.outputs.now c.min-count.result c.loop-i.i c.args.steps.now c.loop-i.steps (omega (arith, c.min-count.ensures)) (omega (arith, c.min-count.ensures)) (λ lt. omega (arith, c.min-count.ensures)) c.loop-i.invariant.fits (omega arith)
+    c.loop-i.invariant.counted

@@ -6,7 +6,6 @@ use Rattle.pdl_machine.specs.Names.{names_limit}
 use Rattle.pdl_machine.specs.State.{AreLive}
 use Rattle.pdl_machine.specs.Step.{roots_bound}
 use Rattle.pdl_scope.specs.Room.{with_names, new_among}
-use Rattle.pdl_scope.specs.Costs.{total_size}
 use Rattle.pdl_scope.specs.Scope.{machine, Grows}
 use Rattle.pdl_scope.proofs.Roots.{left, named_too}
 use Rattle.pdl_scope.proofs.scope.Scope.bind_roots.Given as goal
@@ -20,6 +19,6 @@ invariant-loop-i g l = record {
   grown : Grows l.fn.self l.self;
   live : AreLive l.self.arrays.world (map (λ n. n.1) l.made.items);
   many : length l.made.items ≡ l.i;
-  within : l.steps + total_size l.fn.self.arrays.world ≤ l.fn.steps + total_size l.self.arrays.world;
+  fits : length l.fn.self.names.arrays + new_among l.fn.self.names.arrays (take l.count l.bound) ≤ names_limit;
   counted : l.steps ≤ l.fn.steps + sum_by (λ (m : Made). count_moved m.elems) (take l.i l.outputs);
 }

@@ -93,6 +93,12 @@ returns-clause-stay g c =
     let P : Seen → Type 0 = λ s. (v : ℕ) → IsLive t.world v → is_fresh (engine_of s) v ≡ true → is_fresh t v ≡ true in
     subst P c.self.view_is h.left.stay
 
+pub returns-clause-risen : goal.returns-clause-risen
+returns-clause-risen g c =
+    let e = c.self.inside.engine in
+    let h = c.let_all_go.ensures.goes_on e c.args.steps.now c.self.invariant.whole.sound (let_go_refl e c.args.steps.now c.lazy_law.ensures) in
+    h.risen
+
 pub returns-clause-counted : goal.returns-clause-counted
 returns-clause-counted g c =
     let e = c.self.inside.engine in

@@ -20,7 +20,7 @@ returns-clause-grown g c =
     let ws = c.self.inside.watches.items in
     let fs = c.self.inside.flows.items in
     let P : Seen → Type 0 = λ s. Grows s (scope_in names ws fs c.make.new.self) in
-    subst P c.self.view_is (grown (record { stay = c.flow_laws.ensures.stay; older = c.growth_laws.ensures.older; elements = c.growth_laws.ensures.older_elements; paths = c.growth_laws.ensures.older_paths }) names ws fs c.self.inside.engine c.make.new.self (root c.args.ty c.args.dims.now c.args.elems) c.in_ok-id.id c.self.invariant.whole c.in_ok-id.ensures.made c.make.ensures.sound)
+    subst P c.self.view_is (grown (record { stay = c.flow_laws.ensures.stay; older = c.growth_laws.ensures.older; elements = c.growth_laws.ensures.older_elements; paths = c.growth_laws.ensures.older_paths }) names ws fs c.self.inside.engine c.make.new.self (root c.args.ty c.args.dims.now c.args.elems) c.in_ok-id.id c.self.invariant.whole c.in_ok-id.ensures.made c.make.ensures.sound (c.in_ok-id.ensures.fresh, tt))
 
 pub returns-clause-roots : goal.returns-clause-roots
 returns-clause-roots g c =

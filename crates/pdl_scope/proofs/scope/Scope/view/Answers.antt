@@ -17,4 +17,4 @@ returns-clause-grown c =
     let ws = c.self.inside.watches.items in
     let fs = c.self.inside.flows.items in
     let P : Seen → Type 0 = λ s. Grows s (scope_in names ws fs c.view.new.self) in
-    subst P c.self.view_is (grown (record { stay = c.flow_laws.ensures.stay; older = c.growth_laws.ensures.older; elements = c.growth_laws.ensures.older_elements; paths = c.growth_laws.ensures.older_paths }) names ws fs c.self.inside.engine c.view.new.self (view c.args.parent c.args.trans) c.in_ok-id.id c.self.invariant.whole c.in_ok-id.ensures.made c.view.ensures.sound)
+    subst P c.self.view_is (grown (record { stay = c.flow_laws.ensures.stay; older = c.growth_laws.ensures.older; elements = c.growth_laws.ensures.older_elements; paths = c.growth_laws.ensures.older_paths }) names ws fs c.self.inside.engine c.view.new.self (view c.args.parent c.args.trans) c.in_ok-id.id c.self.invariant.whole c.in_ok-id.ensures.made c.view.ensures.sound tt)

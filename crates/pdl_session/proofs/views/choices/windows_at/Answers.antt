@@ -1,4 +1,3 @@
-use Rattle.std.proofs.Common.{arith}
 use Rattle.pdl_machine.specs.Arrays.{array_in}
 use Rattle.pdl_session.proofs.Moved.{read_then, reads_cost}
 use Rattle.pdl_session.proofs.views.choices.windows_at.Goals as goal
