@@ -9,7 +9,7 @@ ghost use Rattle.pdl_affine.specs.Courses.{seen_form, IsSound, IsStraight, begun
 
 use crate::clumping::clump;
 use crate::counting::{counted_offset, counting};
-use crate::courses::courses_of;
+use crate::courses::list_courses;
 use crate::forms::{Course, Form};
 use pdl_shape::{Dims, MOST_DIMS, Triple, dims_list, incs_list, shape_laws, triple_of};
 use smallvec::SmallVec;
@@ -131,7 +131,8 @@ fn straight(alloc: Global, form: &Form, dims: &Dims, over: &Triple) -> Triple
     ensures inside { LiesIn result over.now }
 {
     shape_laws();
-    let courses = courses_of(alloc, form, &over.dims);
+    let mut courses = SmallVec::new(alloc);
+    list_courses(form, &over.dims, &mut courses);
     let place = first_place(over, courses.as_slice());
     let incs = counted_incs(alloc, over, courses.as_slice(), dims);
     triple_of(alloc, counted_offset(place, dims), incs.as_slice(), dims)

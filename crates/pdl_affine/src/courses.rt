@@ -1,5 +1,5 @@
 //! The parent's coordinate along each of its dimensions, for coordinates of a view.
-ghost use Rattle.std.specs.Prelude.{◌≡◌, ◌<◌, ◌≤◌, ◌+◌, ◌-◌, ◌||◌, ◌==◌, ◌^◌, not, pos, slice_index, length, take, count_by, position, unwrap_or, if◌then◌else◌, nat_lt};
+ghost use Rattle.std.specs.Prelude.{◌≡◌, [], ◌<◌, ◌≤◌, ◌+◌, ◌-◌, ◌||◌, ◌==◌, ◌^◌, not, pos, slice_index, length, take, count_by, position, unwrap_or, if◌then◌else◌, nat_lt};
 ghost use Rattle.pdl_shape.specs.Shape.{dims_limit};
 ghost use Rattle.pdl_affine.specs.Courses.{seen_form, lines_of_taken, IsSound, IsStraight, IsCourse, AreCourses, course_at, full_course, still, exchanged_to, past, shifted_to, diagonal_to, squeezed_to};
 ghost use Rattle.pdl_affine.specs.Views.{kept_dims, lists, lowest_of};
@@ -9,20 +9,19 @@ use crate::resolving::lists;
 use crate::sizing::{is_kept, lowest_of};
 use pdl_shape::{Dims, MOST_DIMS, dims_list, shape_laws};
 use smallvec::SmallVec;
-use std::alloc::Global;
 
-/// The course of each dimension of the parent, dimension 0 first.
-pub fn courses_of(alloc: Global, form: &Form, parent: &Dims) -> SmallVec<Course, MOST_DIMS>
+/// Lists the course of each dimension of the parent, dimension 0 first, where none is listed yet.
+pub fn list_courses(form: &Form, parent: &Dims, courses: &mut SmallVec<Course, MOST_DIMS>)
     requires sound { IsSound (seen_form form.now) parent.now }
     requires straight { IsStraight (seen_form form.now) }
-    ensures { AreCourses (seen_form form.now) parent.now result.items }
+    requires empty { courses.old.items ≡ [] }
+    requires room { courses.old.capacity ≡ dims_limit }
+    ensures { AreCourses (seen_form form.now) parent.now courses.new.items }
 {
     let sizes = dims_list(parent);
-    let mut courses = SmallVec::new(alloc);
     for dimension in 0..sizes.len() {
         courses.push_reserved(course(form, sizes, dimension));
     }
-    courses
 }
 
 /// The course of one dimension of the parent.

@@ -1,16 +1,18 @@
 //! An assignment, block by block.
-ghost use Rattle.std.specs.Prelude.{◌≡◌, ◌+◌, ◌≤◌, ◌<◌, ◌^◌, length, true, is_ok, Ok, All, OnOk, OnErr, IfErr};
+ghost use Rattle.std.specs.Prelude.{◌≡◌, ℕ, ◌+◌, ◌≤◌, ◌<◌, ◌^◌, length, false, true, is_ok, Ok, All, OnOk, OnErr, IfErr};
 ghost use Rattle.pdl_elem.specs.Types.{InRange};
 ghost use Rattle.pdl_shape.specs.Broadcast.{BroadcastsTo};
 ghost use Rattle.pdl_shape.specs.Shape.{size_of};
 ghost use Rattle.pdl_ops.specs.Answers.{IsRefused, refusal_named};
 ghost use Rattle.pdl_ops.specs.Values.{fits};
 ghost use Rattle.pdl_world.specs.Sound.{IsLive, IsSound};
-ghost use Rattle.pdl_world.specs.World.{dims_in, elements, ty_in};
+ghost use Rattle.pdl_world.specs.Paths.{root_of};
+ghost use Rattle.pdl_world.specs.Windows.{base};
+ghost use Rattle.pdl_world.specs.World.{dims_in, elements, has_repeats, places_in, ty_in};
 ghost use Rattle.pdl_engine.specs.State.{is_fresh};
-ghost use Rattle.pdl_assign.specs.Blocks.{AreWritten, CanBlock, IsAssigned, block_in, values_in, written_in};
+ghost use Rattle.pdl_assign.specs.Blocks.{AreWritten, CanBlock, IsAssigned, IsWritten, block_in, values_in, written_in};
 
-use pdl_buf::{Steps, stretched, strided_dims};
+use pdl_buf::{Steps, Strided, stretched, strided_dims, strided_read};
 use pdl_engine::{ArrayId, Engine};
 use pdl_lexemes::AssignOp;
 use pdl_ops::{OpFault, first_divisor, stretches, value_laws, values_part};
@@ -20,6 +22,12 @@ use std::sync::ledger::Ledger;
 
 /// So many values are found and written at once.
 pub const BLOCK: usize = 1024;
+
+/// So many values that are there are written at once.
+const SHOWN: usize = 512;
+
+/// For so many of them a small room will do.
+const FEW: usize = 16;
 
 /// Why an assignment writes nothing, if it is refused: its right side doesn't fit, or a divisor is
 /// 0. All of the right side is looked at, and nothing is changed.
@@ -181,5 +189,70 @@ pub fn assign_blocks<L: Ledger>(
             Ok(())
         }
         Err(fault) => Err(fault),
+    }
+}
+
+/// Puts what a window shows at the positions of an array, in blocks as long as a room for one.
+fn write_shown<L: Ledger>(
+    engine: &mut Engine,
+    target: ArrayId,
+    values: &Strided<'_>,
+    block: &mut [i64],
+    steps: &mut Steps<L>,
+)
+    requires room { 0 < length block.old }
+    requires sound { IsSound engine.old.world }
+    requires live { IsLive engine.old.world target }
+    requires fresh { is_fresh engine.old target ≡ true }
+    requires steady { let w = engine.old.world in
+        has_repeats (places_in w (base w target)) ≡ false }
+    requires type_is { values.now.ty ≡ ty_in engine.old.world target }
+    requires count { length values.now.elems ≡ size_of (dims_in engine.old.world target) }
+    ensures written { IsWritten engine.old target values.now.elems engine.new }
+    ensures others { (u : ℕ) → (root_of engine.old.world u ≡ root_of engine.old.world target → ⊥)
+        → is_fresh engine.old u ≡ true → is_fresh engine.new u ≡ true }
+    ensures counted { steps.new ≡ steps.old + length values.now.elems }
+{
+    part_laws();
+    assignment_laws();
+    value_laws();
+    let count = elements_of(strided_dims(values)) as usize;
+    let mut shown = 0;
+    while shown < count {
+        let size = (count - shown).min(block.len());
+        let first = shown as u32;
+        strided_read(values, first, &mut block[..size]);
+        engine.assign_part(target, first, &block[..size], steps);
+        shown += size;
+    }
+}
+
+/// Puts what a window shows at the positions of an array, block by block, which is the same as all
+/// at once: the array can be lent, and its base has no repeats. It takes no memory, and a step for
+/// each value. The array can be lent afterwards, and so can what could be of other families.
+pub fn assign_shown<L: Ledger>(
+    engine: &mut Engine,
+    target: ArrayId,
+    values: &Strided<'_>,
+    steps: &mut Steps<L>,
+)
+    requires sound { IsSound engine.old.world }
+    requires live { IsLive engine.old.world target }
+    requires fresh { is_fresh engine.old target ≡ true }
+    requires steady { let w = engine.old.world in
+        has_repeats (places_in w (base w target)) ≡ false }
+    requires type_is { values.now.ty ≡ ty_in engine.old.world target }
+    requires count { length values.now.elems ≡ size_of (dims_in engine.old.world target) }
+    ensures written { IsWritten engine.old target values.now.elems engine.new }
+    ensures others { (u : ℕ) → (root_of engine.old.world u ≡ root_of engine.old.world target → ⊥)
+        → is_fresh engine.old u ≡ true → is_fresh engine.new u ≡ true }
+    ensures counted { steps.new ≡ steps.old + length values.now.elems }
+{
+    if elements_of(strided_dims(values)) as usize <= FEW {
+        let mut block = [0; FEW];
+        write_shown(engine, target, values, &mut block, steps)
+    } else {
+        let mut block = [0; SHOWN];
+        write_shown(engine, target, values, &mut block, steps)
     }
 }

@@ -7,6 +7,6 @@ mod blocks;
 mod choosing;
 mod laws;
 
-pub use blocks::{BLOCK, assign_blocks};
+pub use blocks::{BLOCK, assign_blocks, assign_shown};
 pub use choosing::can_block;
 pub use laws::worked_blocks;

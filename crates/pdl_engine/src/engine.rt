@@ -27,7 +27,7 @@ use crate::depth::is_deeper;
 use crate::foreseeing::{Foreseen, Foresight, foresee, foretell};
 use crate::spread::lies_apart;
 use crate::{reaching, readying, releases, severing};
-use pdl_buf::{Elements, NoMemory, Steps, Strided, buf_of_elements, strided};
+use pdl_buf::{Buf, Elements, NoMemory, Steps, Strided, buf_of_elements, strided};
 use pdl_elem::Ty;
 use pdl_nodes::{
     Holds, Layout, Origin, RelayFault as ReshapeFault, Table, ViewFault, insert, layout, root_node,
@@ -359,6 +359,29 @@ impl Engine {
         row_laws();
         part_laws();
         pdl_push::assign(&mut self.table, id, first, values, steps)
+    }
+
+    /// Puts these elements at the positions of a root, as `assign` does. They are taken over as they
+    /// are kept: no element is moved, so it takes no step, and no memory.
+    pub fn replace(&mut self, id: ArrayId, values: Buf)
+        requires live { IsLive self.old.world id }
+        requires fresh { is_fresh self.old id ≡ true }
+        requires root { root_of self.old.world id ≡ id }
+        requires type_is { values.ty ≡ ty_in self.old.world id }
+        requires count { length values.elems ≡ size_of (dims_in self.old.world id) }
+        requires in_range { All (InRange (ty_in self.old.world id)) values.elems }
+        ensures world { self.new.world ≡ assign self.old.world id values.elems }
+        ensures holds { self.new.holds ≡ self.old.holds }
+        ensures next { self.new.next ≡ self.old.next }
+        ensures others { (u : ℕ) → (root_of self.old.world u ≡ root_of self.old.world id → ⊥)
+            → is_fresh self.old u ≡ true → is_fresh self.new u ≡ true }
+        ensures sound { IsSound self.new.world }
+        ensures target { TargetIsFresh self.old id self.new }
+        ensures waits { TargetWaits self.old id self.new }
+    {
+        row_laws();
+        part_laws();
+        pdl_push::replace(&mut self.table, id, values)
     }
 
     /// The root of an array, by which two arrays are of one family.

@@ -17,7 +17,7 @@ use crate::laws::meaning_laws;
 use crate::operand::{Change, Part, changed, joined, made_of};
 use pdl_buf::{Elements, Made, Steps, tick};
 use pdl_elem::Ty;
-use pdl_ops::{Keeping, OpFault};
+use pdl_ops::OpFault;
 use pdl_shape::dims_within;
 use std::alloc::Global;
 use std::sync::ledger::Ledger;
@@ -26,12 +26,11 @@ use std::sync::ledger::Ledger;
 /// operator of it divides. `Mismatch` or `TooLarge` where an operator is refused so, the left
 /// operand's refusals first; never `DivideByZero`. It takes one step of `runs`. An array that is an
 /// operand is lent to the operator; what an operator made is put into a buffer for the next one,
-/// where each element that isn't 0 is a step of `steps`. The elements of the answer are kept as a
-/// list, for who assigns them.
+/// where each element that isn't 0 is a step of `steps`.
 pub fn evaluate<L: Ledger, M: Ledger>(
     alloc: Global,
     formula: &Formula,
-    inputs: &[Input],
+    inputs: &[Input<'_>],
     steps: &mut Steps<L>,
     runs: &mut Steps<M>,
 ) -> Result<Made, OpFault>
@@ -49,17 +48,16 @@ pub fn evaluate<L: Ledger, M: Ledger>(
 {
     meaning_laws();
     tick(runs);
-    let part = part_of(alloc, formula, inputs, Keeping::Listed, steps)?;
-    Ok(made_of(alloc, part, Keeping::Listed)?)
+    let part = part_of(alloc, formula, inputs, steps)?;
+    Ok(made_of(alloc, part)?)
 }
 
-/// What a part of a formula is. Where an operator makes it, its elements are kept so; what is made
-/// for the operator is packed, so that it is moved into a buffer as it is.
+/// What a part of a formula is. What an operator makes comes packed, so that it is moved into a
+/// buffer as it is.
 fn part_of<'a, L: Ledger>(
     alloc: Global,
     formula: &Formula,
-    inputs: &'a [Input],
-    keeping: Keeping,
+    inputs: &'a [Input<'_>],
     steps: &mut Steps<L>,
 ) -> Result<Part<'a>, OpFault>
     requires formula { IsFormula (tree_of formula.now) }
@@ -70,27 +68,27 @@ fn part_of<'a, L: Ledger>(
         Formula::Number(ty, value) => Ok(Part::Own(number(alloc, *ty, *value)?)),
         Formula::Array(array) => Ok(Part::Lent(lent(*array, inputs))),
         Formula::Unary(op, operand) => {
-            let operand = part_of(alloc, operand, inputs, Keeping::Packed, steps)?;
-            let made = changed(alloc, Change::Operator(*op), operand, keeping, steps)?;
+            let operand = part_of(alloc, operand, inputs, steps)?;
+            let made = changed(alloc, Change::Operator(*op), operand, steps)?;
             Ok(Part::Own(made))
         }
         Formula::Convert(ty, operand) => {
-            let operand = part_of(alloc, operand, inputs, Keeping::Packed, steps)?;
-            let made = changed(alloc, Change::Convert(*ty), operand, keeping, steps)?;
+            let operand = part_of(alloc, operand, inputs, steps)?;
+            let made = changed(alloc, Change::Convert(*ty), operand, steps)?;
             Ok(Part::Own(made))
         }
         Formula::Binary(op, left, right) => {
             both_have_inputs(left, right, inputs);
-            let left = part_of(alloc, left, inputs, Keeping::Packed, steps)?;
-            let right = part_of(alloc, right, inputs, Keeping::Packed, steps)?;
-            let made = joined(alloc, *op, left, right, keeping, steps)?;
+            let left = part_of(alloc, left, inputs, steps)?;
+            let right = part_of(alloc, right, inputs, steps)?;
+            let made = joined(alloc, *op, left, right, steps)?;
             Ok(Part::Own(made))
         }
     }
 }
 
 /// Each array of two formulas has an input, and so has each of one of them. It does nothing.
-fn both_have_inputs(left: &Formula, right: &Formula, inputs: &[Input])
+fn both_have_inputs(left: &Formula, right: &Formula, inputs: &[Input<'_>])
     requires { All (λ k. IsSomeAnd (input_of inputs.now k) IsArray)
         (arrays_in (tree_of left.now) ++ arrays_in (tree_of right.now)) }
     ensures left { AreInputs inputs.now (tree_of left.now) }
@@ -115,7 +113,7 @@ fn number(alloc: Global, ty: Ty, value: i64) -> Result<Made, OpFault>
 }
 
 /// The value of an array by its input.
-fn lent(array: u64, inputs: &[Input]) -> &Kept
+fn lent<'a>(array: u64, inputs: &'a [Input<'_>]) -> &'a Kept
     requires { IsSomeAnd (input_of inputs.now array) IsArray }
     ensures value { result.now ≡ value_in inputs.now array }
     ensures made { IsArray result.now }

@@ -9,6 +9,7 @@ use pdl_buf::{Steps, Strided};
 use pdl_elem::{BinaryOp, Ty, UnaryOp};
 use pdl_shape::Dims;
 use std::alloc::{AllocError, Global};
+use std::marker::Model;
 use std::sync::ledger::Ledger;
 
 /// A formula over arrays, which are known by their numbers.
@@ -24,14 +25,29 @@ pub enum Formula {
     Convert(Ty, Box<Formula>),
 }
 
-/// The value of the array of this number, in a buffer that operators are lent.
+/// An array that is kept, by itself or elsewhere.
 #[derive(Drop)]
-pub struct Input {
-    pub(crate) array: u64,
-    pub(crate) value: Kept,
+pub enum Value<'a> {
+    Own(Kept),
+    Lent(&'a Kept),
 }
 
-impl Input {
+/// The value of the array of this number, in a buffer that operators are lent.
+#[derive(Drop)]
+pub struct Input<'a> {
+    array: u64,
+    value: Value<'a>,
+}
+
+impl<'a> Model for Input<'a> {
+    ghost use Rattle.pdl_flow.specs.Inputs.{Given, held};
+
+    ghost Value = { Given };
+
+    ghost view = { λ i. record { array = i.array; value = held i.value } };
+}
+
+impl<'a> Input<'a> {
     /// The input of an array that has these elements. It takes a step for each of them that isn't
     /// 0, and none where it is out of memory.
     pub fn new<L: Ledger>(
@@ -41,7 +57,7 @@ impl Input {
         dims: &Dims,
         elems: &[i64],
         steps: &mut Steps<L>,
-    ) -> Result<Input, AllocError>
+    ) -> Result<Input<'a>, AllocError>
         requires { IsMade ty dims.now elems.now }
         ensures input { IfOk result (λ i. i ≡ record {
           array = array;
@@ -52,7 +68,7 @@ impl Input {
     {
         Ok(Input {
             array,
-            value: Kept::of_list(alloc, ty, dims, elems, steps)?,
+            value: Value::Own(Kept::of_list(alloc, ty, dims, elems, steps)?),
         })
     }
 
@@ -63,7 +79,7 @@ impl Input {
         array: u64,
         window: &Strided<'_>,
         steps: &mut Steps<L>,
-    ) -> Result<Input, AllocError>
+    ) -> Result<Input<'a>, AllocError>
         ensures input { IfOk result
             (λ i. i ≡ record { array = array; value = array_of window.now }) }
         ensures counted { OnOk result (steps.new ≡ steps.old + count_moved window.now.elems) }
@@ -71,25 +87,52 @@ impl Input {
     {
         Ok(Input {
             array,
-            value: Kept::copied(alloc, window, steps)?,
+            value: Value::Own(Kept::copied(alloc, window, steps)?),
         })
+    }
+
+    /// The input of an array that is kept so elsewhere, of which nothing is copied.
+    pub fn lent(array: u64, kept: &'a Kept) -> Input<'a>
+        ensures { result ≡ record { array = array; value = kept.now } }
+    {
+        Input {
+            array,
+            value: Value::Lent(kept),
+        }
+    }
+
+    /// The number of the array.
+    fn array(&self) -> u64
+        ensures { result ≡ self.now.array }
+    {
+        self.array
+    }
+
+    /// The array that is kept.
+    fn kept(&self) -> &Kept
+        ensures { result.now ≡ self.now.value }
+    {
+        match &self.value {
+            Value::Own(kept) => kept,
+            Value::Lent(kept) => *kept,
+        }
     }
 }
 
 /// The value of an array by its first input.
-pub(crate) fn find_input(inputs: &[Input], array: u64) -> Option<&Kept>
+pub(crate) fn find_input<'a>(inputs: &'a [Input<'_>], array: u64) -> Option<&'a Kept>
     ensures { option_map (λ k. k.now) result ≡ input_of inputs.now array }
 {
     for input in inputs {
-        if input.array == array {
-            return Some(&input.value);
+        if input.array() == array {
+            return Some(input.kept());
         }
     }
     None
 }
 
 /// Whether an array has an input.
-pub fn has_input(inputs: &[Input], array: u64) -> bool
+pub fn has_input(inputs: &[Input<'_>], array: u64) -> bool
     ensures { result ≡ is_some (input_of inputs.now array) }
 {
     find_input(inputs, array).is_some()

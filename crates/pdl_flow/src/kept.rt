@@ -4,11 +4,9 @@ ghost use Rattle.pdl_numbers.specs.Typed.{count_moved};
 ghost use Rattle.pdl_buf.specs.Made.{IsMade, array_of};
 ghost use Rattle.pdl_ops.specs.Laws.{IsArray};
 
-use pdl_buf::{
-    Buf, Made, Steps, Strided, buf_of, buf_of_elements, strided, strided_is_in_range, strided_type,
-};
-use pdl_elem::{Ty, wrapping_laws};
-use pdl_ops::{Keeping, convert_kept};
+use pdl_buf::{Buf, Made, Steps, Strided, buf_of, buf_of_elements, strided};
+use pdl_elem::Ty;
+use pdl_ops::copied;
 use pdl_shape::{Dims, copy_dims, whole_triple};
 use std::alloc::{AllocError, Global};
 use std::marker::Model;
@@ -35,7 +33,7 @@ impl Model for Kept {
 
 impl Kept {
     /// What was made, in a buffer. Each element that isn't 0 is a step.
-    pub(crate) fn new<L: Ledger>(
+    pub fn new<L: Ledger>(
         alloc: Global,
         made: Made,
         steps: &mut Steps<L>,
@@ -82,28 +80,21 @@ impl Kept {
         ensures counted { OnOk result (steps.new ≡ steps.old + count_moved window.now.elems) }
         ensures err { OnErr result (steps.new ≡ steps.old) }
     {
-        let made = copy_of(alloc, window, Keeping::Packed)?;
+        let made = copied(alloc, window)?;
         Kept::new(alloc, made, steps)
     }
 
+    /// The buffer, out of which nothing is copied.
+    pub fn into_buf(self) -> Buf
+        ensures { result ≡ record { ty = self.ty; elems = self.elems } }
+    {
+        self.buf
+    }
+
     /// The whole array as a window.
-    pub(crate) fn whole(&self, alloc: Global) -> Strided<'_>
+    pub fn whole(&self, alloc: Global) -> Strided<'_>
         ensures { array_of result ≡ self.now }
     {
         strided(&self.buf, &whole_triple(alloc, &self.dims))
     }
-}
-
-/// What a window shows, whose elements are kept so.
-pub(crate) fn copy_of(
-    alloc: Global,
-    window: &Strided<'_>,
-    keeping: Keeping,
-) -> Result<Made, AllocError>
-    ensures value { IfOk result (λ made. made ≡ array_of window.now) }
-    ensures made { IfOk result IsArray }
-{
-    wrapping_laws();
-    strided_is_in_range(window);
-    convert_kept(alloc, strided_type(window), window, keeping)
 }

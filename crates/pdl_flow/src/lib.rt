@@ -10,4 +10,5 @@ mod operand;
 
 pub use evaluation::evaluate;
 pub use formula::{Formula, Input, has_input};
+pub use kept::Kept;
 pub use laws::meaning_laws;

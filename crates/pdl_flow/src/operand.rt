@@ -6,10 +6,10 @@ ghost use Rattle.pdl_ops.specs.Elementwise.{elementwise};
 ghost use Rattle.pdl_ops.specs.Laws.{IsArray};
 ghost use Rattle.pdl_flow.specs.Parts.{IsAnswered, changed, moved_by, seen};
 
-use crate::kept::{Kept, copy_of};
+use crate::kept::Kept;
 use pdl_buf::{Made, Steps, Strided};
 use pdl_elem::{BinaryOp, Ty, UnaryOp};
-use pdl_ops::{Keeping, OpFault, convert_kept, elementwise_kept, unary_kept};
+use pdl_ops::{OpFault, convert, copied, elementwise, unary_each};
 use std::alloc::{AllocError, Global};
 use std::sync::ledger::Ledger;
 
@@ -36,7 +36,6 @@ pub(crate) fn changed<L: Ledger>(
     alloc: Global,
     change: Change,
     operand: Part<'_>,
-    keeping: Keeping,
     steps: &mut Steps<L>,
 ) -> Result<Made, OpFault>
     requires { IsArray (seen operand) }
@@ -44,28 +43,23 @@ pub(crate) fn changed<L: Ledger>(
         IsAnswered (λ made. made) wanted (moved_by operand.entry) steps.old steps.new result }
 {
     match operand {
-        Part::Lent(kept) => changed_window(alloc, change, &kept.whole(alloc), keeping),
+        Part::Lent(kept) => changed_window(alloc, change, &kept.whole(alloc)),
         Part::Own(made) => {
             let kept = Kept::new(alloc, made, steps)?;
-            changed_window(alloc, change, &kept.whole(alloc), keeping)
+            changed_window(alloc, change, &kept.whole(alloc))
         }
     }
 }
 
 /// A window changed at each element.
-fn changed_window(
-    alloc: Global,
-    change: Change,
-    operand: &Strided<'_>,
-    keeping: Keeping,
-) -> Result<Made, OpFault>
+fn changed_window(alloc: Global, change: Change, operand: &Strided<'_>) -> Result<Made, OpFault>
     ensures value { let wanted = Ok (changed change (array_of operand.now)) in
         Answers (λ made. made) wanted result }
     ensures made { IfOk result IsArray }
 {
     match change {
-        Change::Operator(op) => Ok(unary_kept(alloc, op, operand, keeping)?),
-        Change::Convert(ty) => Ok(convert_kept(alloc, ty, operand, keeping)?),
+        Change::Operator(op) => Ok(unary_each(alloc, op, operand)?),
+        Change::Convert(ty) => Ok(convert(alloc, ty, operand)?),
     }
 }
 
@@ -76,7 +70,6 @@ pub(crate) fn joined<L: Ledger>(
     op: BinaryOp,
     left: Part<'_>,
     right: Part<'_>,
-    keeping: Keeping,
     steps: &mut Steps<L>,
 ) -> Result<Made, OpFault>
     requires left { IsArray (seen left) }
@@ -86,10 +79,10 @@ pub(crate) fn joined<L: Ledger>(
         IsAnswered (λ made. made) wanted moved steps.old steps.new result }
 {
     match left {
-        Part::Lent(kept) => joined_to(alloc, op, kept, right, keeping, steps),
+        Part::Lent(kept) => joined_to(alloc, op, kept, right, steps),
         Part::Own(made) => {
             let kept = Kept::new(alloc, made, steps)?;
-            joined_to(alloc, op, &kept, right, keeping, steps)
+            joined_to(alloc, op, &kept, right, steps)
         }
     }
 }
@@ -100,7 +93,6 @@ fn joined_to<L: Ledger>(
     op: BinaryOp,
     left: &Kept,
     right: Part<'_>,
-    keeping: Keeping,
     steps: &mut Steps<L>,
 ) -> Result<Made, OpFault>
     requires { IsArray (seen right) }
@@ -108,28 +100,22 @@ fn joined_to<L: Ledger>(
         IsAnswered (λ made. made) wanted (moved_by right.entry) steps.old steps.new result }
 {
     match right {
-        Part::Lent(kept) => elementwise_kept(
-            alloc,
-            op,
-            &left.whole(alloc),
-            &kept.whole(alloc),
-            keeping,
-        ),
+        Part::Lent(kept) => elementwise(alloc, op, &left.whole(alloc), &kept.whole(alloc)),
         Part::Own(made) => {
             let kept = Kept::new(alloc, made, steps)?;
-            elementwise_kept(alloc, op, &left.whole(alloc), &kept.whole(alloc), keeping)
+            elementwise(alloc, op, &left.whole(alloc), &kept.whole(alloc))
         }
     }
 }
 
-/// A part of a formula as an array of its own: an array's value is copied, and kept so.
-pub(crate) fn made_of(alloc: Global, part: Part<'_>, keeping: Keeping) -> Result<Made, AllocError>
+/// A part of a formula as an array of its own: an array's value is copied.
+pub(crate) fn made_of(alloc: Global, part: Part<'_>) -> Result<Made, AllocError>
     requires { IsArray (seen part) }
     ensures value { IfOk result (λ made. made ≡ seen part.entry) }
     ensures made { IfOk result IsArray }
 {
     match part {
-        Part::Lent(kept) => copy_of(alloc, &kept.whole(alloc), keeping),
+        Part::Lent(kept) => copied(alloc, &kept.whole(alloc)),
         Part::Own(made) => Ok(made),
     }
 }

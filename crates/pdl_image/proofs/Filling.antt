@@ -1,12 +1,11 @@
 -- Parts of lines and lines, by as many members as were looked at.
-use Rattle.std.proofs.Common.{◌≡◌, ℕ, zero, suc, ◌+◌, ◌-◌, ◌*◌, ◌<◌, min, Bool, true, false, cond, List, [], ◌∷◌, ◌++◌, length, take, drop, get_or, map, ℤ, pos, ◌^◌, refl, ap, ap₂, sym, ◌∙◌, subst, arith, append_assoc}
+use Rattle.std.proofs.Common.{◌≡◌, ℕ, zero, suc, ◌+◌, ◌-◌, ◌*◌, ◌<◌, Bool, true, false, cond, List, [], ◌∷◌, ◌++◌, length, take, drop, get_or, map, ℤ, pos, ◌^◌, refl, ap, ap₂, sym, ◌∙◌, subst, arith, append_assoc}
 use Rattle.std.specs.Prelude.{flat_map, ◌||◌, Result, Ok, Err, codes, decimal}
 use Rattle.std.specs.Result.{IsErrAnd}
 use Rattle.std.specs.List.{list_any, range_with_len}
 use Rattle.std.proofs.lemmas.Grind.{flat_map-append}
-use Rattle.std.proofs.lemmas.List.{take_more, map-append, append-nil, length-take-le, length-take, length-drop, take_all}
+use Rattle.std.proofs.lemmas.List.{take_more, map-append, append-nil, length-take-le, length-take}
 use Rattle.std.proofs.lemmas.List.FromFn.{map-range_with_len_more}
-use Rattle.pdl_lemmas.specs.Tests.{by_lt}
 use Rattle.pdl_slices.specs.declared.SliceArg.{SliceArg}
 use Rattle.pdl_slices.specs.Written.{arg_text, more_text as more_args_text}
 use Rattle.pdl_choice.specs.Where.{is_set}
@@ -48,20 +47,6 @@ parted [] zero = refl
 parted [] (suc n) = refl
 parted (x ∷ xs) zero = refl
 parted (x ∷ xs) (suc n) = ap (λ t. x ∷ t) (parted xs n)
-
--- no more than a list has
-take_capped : (xs : List ℤ) (most n : ℕ) → n ≡ min most (length xs) → take n xs ≡ take most xs
-take_capped xs most n is =
-    by_lt most (length xs)
-    (λ below. ap (λ (k : ℕ). take k xs) (least n most (length xs) is below))
-    (λ past. take_all n xs (omega arith) ∙ sym (take_all most xs past))
-  where
-    least : (n most len : ℕ) → n ≡ min most len → most < len → n ≡ most
-    least n most len e h = omega arith
-
-pub piece_taken : (xs : List ℤ) (first count n most : ℕ) → count ≡ length xs → n ≡ min most (count - first) → take n (drop first xs) ≡ take most (drop first xs)
-piece_taken xs first count n most whole is =
-    take_capped (drop first xs) most n (is ∙ ap (λ (k : ℕ). min most k) (ap (λ (k : ℕ). k - first) whole ∙ sym (length-drop first xs)))
 
 -- a range in two parts
 pub range_parts : (from n m k : ℕ) → k ≡ n + m → range_with_len from k ≡ range_with_len from n ++ range_with_len (from + n) m

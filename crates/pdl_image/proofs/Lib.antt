@@ -2,3 +2,4 @@ pub mod Adding
 pub mod Filling
 pub mod StemLemmas
 pub mod Masking
+pub mod Parts

@@ -1,22 +1,20 @@
 -- Masks of listed positions, and parts of them.
-use Rattle.std.proofs.Common.{◌≡◌, ℕ, zero, suc, ◌+◌, ◌-◌, ◌<◌, ◌≤◌, min, Bool, true, false, cond, List, [], ◌∷◌, ◌++◌, length, take, drop, map, get_or, ℤ, pos, refl, ap, ap₂, sym, ◌∙◌, subst, arith, eqb-true}
+use Rattle.std.proofs.Common.{◌≡◌, ℕ, zero, suc, ◌+◌, ◌-◌, ◌<◌, ◌≤◌, Bool, true, false, cond, List, [], ◌∷◌, ◌++◌, length, take, drop, map, get_or, ℤ, pos, refl, ap, ap₂, sym, ◌∙◌, subst, arith, eqb-true}
 use Rattle.std.specs.Prelude.{◌==◌, ◌||◌, ◌&&◌, IsTrue, nat_le, nat_lt, slice_set, replicate}
 use Rattle.std.specs.List.{All, filter, range_with_len}
 use Rattle.std.specs.List.Sorted.{IsNonDecreasing}
 use Rattle.std.proofs.lemmas.Bool.{and_parts, ltb-true, eqb-false, ne_eqb, leb-true, le-leb}
 use Rattle.std.proofs.lemmas.List.{get_or-set_same, get_or-set_other, get_or-take, get_or-drop, length-set, length-take-le, length-drop, get_or-replicate, length-replicate, same_lists, take-append-drop}
-use Rattle.std.proofs.lemmas.List.Elements.{All-weaker}
+use Rattle.std.proofs.lemmas.List.Elements.{All-map, All-weaker}
 use Rattle.std.proofs.lemmas.List.Folds.{list_any-append, list_any_none}
 use Rattle.std.proofs.lemmas.List.FromFn.{get_or-map-range_with_len, length-map-range_with_len, take-map-range_with_len}
 use Rattle.std.proofs.Math.Bool.{or-true, or-false}
 use Rattle.pdl_lemmas.specs.Tests.{by_lt, by_test}
 use Rattle.pdl_choice.specs.Where.{is_set, rises}
-use Rattle.pdl_image.specs.declared.TheConstants.{PIECE}
 use Rattle.pdl_image.specs.Stems.{is_in}
-use Rattle.pdl_image.specs.Dump.{mask_of}
+use Rattle.pdl_image.specs.Dump.{is_least, mask_of}
 use Rattle.pdl_image.specs.Adding.{mask_part}
 use Rattle.pdl_image.specs.Laws.{MasksChoose}
-use Rattle.pdl_image.proofs.Filling.{piece_taken}
 
 -- a mask's number at a position
 abbrev pub mark : List ℕ → ℕ → ℤ
@@ -188,7 +186,7 @@ parts_agree first (suc n) places others same =
     ap₂ (λ b t. cond b (pos 1) (pos 0) ∷ t) (same first (omega arith) (omega arith))
     (parts_agree (first + 1) n places others (λ p h k. same p (omega arith) (omega arith)))
 
--- ---- a piece of a mask
+-- ---- some of a mask
 
 dropped : (f : ℕ → ℤ) (a b n : ℕ) → drop a (map f (range_with_len b n)) ≡ map f (range_with_len (b + a) (n - a))
 dropped f zero b n = ap₂ (λ (x y : ℕ). map f (range_with_len x y)) (from_zero b) (less_zero n)
@@ -211,19 +209,23 @@ dropped f (suc a) b (suc n) =
     less : (n a : ℕ) → n - a ≡ suc n - suc a
     less n a = omega arith
 
-pub piece_of_mask : (n first count : ℕ) (places : List ℕ) → count ≡ min PIECE (n - first)
-    → mask_part first count places ≡ take PIECE (drop first (mask_of n places))
-piece_of_mask n first count places is =
-    sym (sym (piece_taken (mask_of n places) first n count PIECE (sym (mask_len n places)) is)
-    ∙ ap (take count) (dropped (mark places) first 0 n)
-    ∙ take-map-range_with_len (mark places) (0 + first) (n - first) count (fewer count n first is)
+pub part_of_mask : (n first count : ℕ) (places : List ℕ) → first + count ≤ n → mask_part first count places ≡ take count (drop first (mask_of n places))
+part_of_mask n first count places within =
+    sym (ap (take count) (dropped (mark places) first 0 n)
+    ∙ take-map-range_with_len (mark places) (0 + first) (n - first) count (omega arith)
     ∙ ap (λ (k : ℕ). mask_part k count places) (zero_left first))
   where
-    fewer : (count n first : ℕ) → count ≡ min PIECE (n - first) → count ≤ n - first
-    fewer count n first e = omega arith
-
     zero_left : (n : ℕ) → 0 + n ≡ n
     zero_left n = omega arith
+
+-- no number of a mask is the least longlong
+pub no_least : (n : ℕ) (places : List ℕ) → All (λ m. is_least m ≡ false) (mask_of n places)
+no_least n places =
+    All-map (λ m. is_least m ≡ false) (mark places) (range_with_len 0 n) (λ k d h. at (is_in places (get_or (range_with_len 0 n) k d)))
+  where
+    at : (b : Bool) → is_least (cond b (pos 1) (pos 0)) ≡ false
+    at true = refl
+    at false = refl
 
 -- ---- places that rise
 

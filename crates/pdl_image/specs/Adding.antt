@@ -1,12 +1,15 @@
 -- What appending lines leaves of a text. Callers of the writer need none of it.
-use Rattle.std.specs.Prelude.{◌≡◌, ◌<◌, ◌≤◌, true, false, if◌then◌else◌, List, [], ◌∷◌, ℕ, ℤ, pos, ◌++◌, length, map, codes, decimal, Result, OnOk, OnErr, IfErr}
+use Rattle.std.specs.List.Sorted.{IsNonDecreasing}
+use Rattle.std.specs.Prelude.{Option, Some, None, ◌+◌, ◌-◌, ◌/◌, ◌≡◌, ◌<◌, ◌≤◌, true, false, if◌then◌else◌, List, [], ◌∷◌, ℕ, ℤ, pos, ◌++◌, length, map, codes, decimal, Result, OnOk, OnErr, IfErr}
 use Rattle.std.specs.List.{concat, range_with_len}
 use Rattle.pdl_image.specs.declared.ImageFault.{ImageFault}
 use Rattle.pdl_image.specs.declared.ImageFault.TheVariants.{TooLong}
-use Rattle.pdl_image.specs.declared.TheConstants.{LONGEST_DUMP}
+use Rattle.pdl_image.specs.declared.TheConstants.{LONGEST_DUMP, PART}
 use Rattle.pdl_image.specs.Lines.{Line, numbers_text, script_of}
 use Rattle.pdl_image.specs.Stems.{is_in}
-use Rattle.pdl_image.specs.Dump.{is_too_long}
+use Rattle.pdl_image.specs.Dump.{is_too_long, mask_of}
+use Rattle.pdl_image.specs.declared.content.Kept.{Kept}
+use Rattle.pdl_image.specs.declared.content.Kept.TheVariants.{Shown, Listed, Marked}
 
 -- a text, and the line that is made behind it
 pub record PageParts : Type 0 where
@@ -45,3 +48,24 @@ bytes_to name first last ns = concat
 abbrev pub mask_part : (first count : ℕ) → (places : List ℕ) → List ℤ
 mask_part first count places =
     map (λ p. if is_in places p then pos 1 else pos 0) (range_with_len first count)
+
+-- the numbers that are kept
+abbrev pub kept_numbers : Kept → List ℤ
+kept_numbers (Shown elems) = elems.now.elems
+kept_numbers (Listed numbers) = numbers.now
+kept_numbers (Marked count places) = mask_of count places.now
+
+-- places that are kept rise
+abbrev pub IsSound : Kept → Type 0
+IsSound (Shown elems) = Unit {0}
+IsSound (Listed numbers) = Unit {0}
+IsSound (Marked count places) = IsNonDecreasing places.now
+
+-- how many parts so many numbers have
+abbrev pub part_count : ℕ → ℕ
+part_count n = (n + (PART - 1)) / PART
+
+-- what stands behind the stem in a name of the dump's own: an array's number, or an `i`
+abbrev pub own_end : Option ℕ → List ℕ
+own_end (Some k) = decimal k
+own_end None = 105 ∷ []

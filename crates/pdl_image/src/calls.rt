@@ -4,6 +4,7 @@ ghost use Rattle.pdl_image.specs.Dump.{affine_call, edge_number};
 ghost use Rattle.pdl_image.specs.Lines.{call_text, chosen, numbered, ranged, sliced};
 
 use crate::numbers::{push_count, push_numbers, push_slice};
+use crate::own::OwnName;
 use crate::page::Page;
 use pdl_affine::Affine;
 use pdl_choice::Edge;
@@ -51,14 +52,14 @@ pub fn push_affine(page: &mut Page, affine: &Affine) -> Result<(), AllocError>
 }
 
 /// Appends a call with the array that chooses.
-pub fn push_chosen(page: &mut Page, word: &[u8], index: &[u8]) -> Result<(), AllocError>
+pub fn push_chosen(page: &mut Page, word: &[u8], index: &OwnName<'_>) -> Result<(), AllocError>
     ensures line { OnOk result (page.new.line
         ≡ page.old.line ++ call_text (chosen word.now index.now)) }
     ensures text { page.new.text ≡ page.old.text }
 {
     page.extend(word)?;
     page.push(b'(')?;
-    page.extend(index)?;
+    index.push(page)?;
     page.push(b')')
 }
 
@@ -77,7 +78,7 @@ fn edge_number(edge: Edge) -> u64
 /// Appends the call of a range.
 pub fn push_ranged(
     page: &mut Page,
-    index: &[u8],
+    index: &OwnName<'_>,
     sizes: &[i64],
     edge: Edge,
 ) -> Result<(), AllocError>
@@ -86,7 +87,7 @@ pub fn push_ranged(
     ensures text { page.new.text ≡ page.old.text }
 {
     page.extend(b"range(")?;
-    page.extend(index)?;
+    index.push(page)?;
     page.extend(b",pdl [")?;
     push_numbers(page, sizes)?;
     page.extend(b"],")?;

@@ -3,14 +3,14 @@ ghost use Rattle.std.specs.Prelude.{◌≡◌, ◌≤◌, ◌<◌, ◌^◌, ◌+
 ghost use Rattle.pdl_image.specs.Adding.{Adds, Writes};
 ghost use Rattle.pdl_image.specs.Dump.{affine_call, as_listed, edge_number, given_lines};
 ghost use Rattle.pdl_image.specs.Lines.{Line, chosen, kernel_line, least_line, line_text, ranged, root_line, same_line, undef_line, view_line};
-ghost use Rattle.pdl_choice.specs.Where.{is_set};
-ghost use Rattle.std.specs.List.{list_any};
 
+use crate::content::Content;
+use crate::given::is_any_given;
 use crate::lines::{
     write_affine, write_chosen, write_kernel, write_least, write_piece, write_ranged, write_root,
     write_same, write_undef,
 };
-use crate::numbers::as_listed;
+use crate::own::OwnName;
 use crate::page::Page;
 use crate::{ImageFault, LONGEST_DUMP};
 use pdl_affine::Affine;
@@ -41,20 +41,6 @@ impl Model for Draft {
     ghost invariant = { λ d. length d.page.text ≤ LONGEST_DUMP };
 }
 
-/// Whether a number isn't 0 as it stands in a list.
-fn is_given(number: i64) -> bool
-    ensures { result ≡ is_set (as_listed number) }
-{
-    as_listed(number) != 0
-}
-
-/// Whether some number isn't 0 as it stands in a list.
-fn is_any_given(numbers: &[i64]) -> bool
-    ensures { result ≡ list_any (λ n. is_set (as_listed n)) numbers.now }
-{
-    numbers.iter().any(|number| is_given(*number))
-}
-
 /// Appends the line that was made and its end, if there was memory to make it and there is room for
 /// it in the text.
 fn keep_line(page: &mut Page, made: Result<(), AllocError>) -> Result<(), ImageFault>
@@ -82,11 +68,6 @@ impl Draft {
         Draft {
             page: Page::new(alloc),
         }
-    }
-
-    /// What gives the memory.
-    pub fn alloc(&self) -> Global {
-        self.page.alloc()
     }
 
     /// How many bytes the text has.
@@ -127,7 +108,7 @@ impl Draft {
     }
 
     /// Appends the line that makes an array of zeros.
-    pub fn add_zeros(&mut self, name: &[u8], ty: Ty, dims: &Dims) -> Result<(), ImageFault>
+    pub fn add_zeros(&mut self, name: &OwnName<'_>, ty: Ty, dims: &Dims) -> Result<(), ImageFault>
         ensures { Adds self.old self.new (root_line name.now ty dims.now ∷ []) result }
     {
         let made = write_root(&mut self.page, name, ty, dims);
@@ -138,9 +119,9 @@ impl Draft {
     /// list, unless all of these are 0.
     pub fn add_given(
         &mut self,
-        name: &[u8],
+        name: &OwnName<'_>,
         first: usize,
-        numbers: &[i64],
+        numbers: &Content<'_>,
     ) -> Result<(), ImageFault>
         requires { first + length numbers.now < 2 ^ 32 }
         ensures { Adds self.old self.new
@@ -156,7 +137,7 @@ impl Draft {
     }
 
     /// Appends the line that gives an element the least longlong.
-    pub fn add_least(&mut self, name: &[u8], position: usize) -> Result<(), ImageFault>
+    pub fn add_least(&mut self, name: &OwnName<'_>, position: usize) -> Result<(), ImageFault>
         ensures { Adds self.old self.new (least_line name.now position ∷ []) result }
     {
         let made = write_least(&mut self.page, name, position);
@@ -166,8 +147,8 @@ impl Draft {
     /// Appends the line of an affine view.
     pub fn add_affine(
         &mut self,
-        name: &[u8],
-        parent: &[u8],
+        name: &OwnName<'_>,
+        parent: &OwnName<'_>,
         affine: &Affine,
     ) -> Result<(), ImageFault>
         ensures { Adds self.old self.new
@@ -180,10 +161,10 @@ impl Draft {
     /// Appends the line of a view by the array that chooses.
     pub fn add_chosen(
         &mut self,
-        name: &[u8],
-        parent: &[u8],
+        name: &OwnName<'_>,
+        parent: &OwnName<'_>,
         word: &[u8],
-        index: &[u8],
+        index: &OwnName<'_>,
     ) -> Result<(), ImageFault>
         ensures { Adds self.old self.new
             (view_line name.now parent.now (chosen word.now index.now) ∷ []) result }
@@ -195,9 +176,9 @@ impl Draft {
     /// Appends the line of a view of windows.
     pub fn add_ranged(
         &mut self,
-        name: &[u8],
-        parent: &[u8],
-        index: &[u8],
+        name: &OwnName<'_>,
+        parent: &OwnName<'_>,
+        index: &OwnName<'_>,
         sizes: &[i64],
         edge: Edge,
     ) -> Result<(), ImageFault>
@@ -210,7 +191,7 @@ impl Draft {
     }
 
     /// Appends the line that gives another name to an array.
-    pub fn add_same(&mut self, name: &[u8], other: &[u8]) -> Result<(), ImageFault>
+    pub fn add_same(&mut self, name: &[u8], other: &OwnName<'_>) -> Result<(), ImageFault>
         ensures { Writes self.old self.new (same_line name.now other.now ∷ []) result }
     {
         let made = write_same(&mut self.page, name, other);
@@ -218,7 +199,7 @@ impl Draft {
     }
 
     /// Appends the line that ends a name.
-    pub fn add_undef(&mut self, name: &[u8]) -> Result<(), ImageFault>
+    pub fn add_undef(&mut self, name: &OwnName<'_>) -> Result<(), ImageFault>
         ensures { Adds self.old self.new (undef_line name.now ∷ []) result }
     {
         let made = write_undef(&mut self.page, name);

@@ -7,11 +7,14 @@
 ghost use Rattle.std.specs.Prelude.{◌≡◌};
 
 mod calls;
+mod content;
 mod draft;
+mod given;
 mod laws;
 mod lines;
 mod masks;
 mod numbers;
+mod own;
 mod page;
 mod pieces;
 mod stems;
@@ -28,6 +31,9 @@ pub const LONGEST_DUMP: usize = 8_388_608;
 
 /// How many elements of an array stand in one statement.
 pub const PIECE: usize = 1_000;
+
+/// How many numbers are read at once.
+const PART: usize = 64;
 
 /// Why lines weren't written.
 #[derive(Clone, Copy, PartialEq, Eq, Debug)]

@@ -5,7 +5,9 @@ ghost use Rattle.pdl_image.specs.Dump.{affine_call, as_listed, edge_number};
 ghost use Rattle.pdl_image.specs.Lines.{chosen, kernel_line, least_line, line_text, ranged, root_line, same_line, undef_line, view_line};
 
 use crate::calls::{push_affine, push_chosen, push_ranged};
+use crate::content::Content;
 use crate::numbers::{push_count, push_listed, push_quoted, push_sizes};
+use crate::own::OwnName;
 use crate::page::Page;
 use pdl_affine::Affine;
 use pdl_choice::Edge;
@@ -34,11 +36,16 @@ pub fn write_kernel(
 }
 
 /// Writes what makes an array of zeros.
-pub fn write_root(page: &mut Page, name: &[u8], ty: Ty, dims: &Dims) -> Result<(), AllocError>
+pub fn write_root(
+    page: &mut Page,
+    name: &OwnName<'_>,
+    ty: Ty,
+    dims: &Dims,
+) -> Result<(), AllocError>
     ensures line { OnOk result (page.new.line ≡ line_text (root_line name.now ty dims.now)) }
     ensures text { page.new.text ≡ page.old.text }
 {
-    page.begin(name)?;
+    name.begin(page)?;
     page.extend(b" = zeroes(")?;
     page.extend(type_word(ty).as_bytes())?;
     push_sizes(page, dims_list(dims))?;
@@ -46,12 +53,12 @@ pub fn write_root(page: &mut Page, name: &[u8], ty: Ty, dims: &Dims) -> Result<(
 }
 
 /// Begins a text that names elements of an array, up to the first position.
-fn begin_elements(page: &mut Page, name: &[u8], first: usize) -> Result<(), AllocError>
+fn begin_elements(page: &mut Page, name: &OwnName<'_>, first: usize) -> Result<(), AllocError>
     ensures line { OnOk result (page.new.line
         ≡ (name.now ++ codes "->flat->slice(\"") ++ decimal first) }
     ensures text { page.new.text ≡ page.old.text }
 {
-    page.begin(name)?;
+    name.begin(page)?;
     page.extend(b"->flat->slice(\"")?;
     push_count(page, first as u64)
 }
@@ -60,9 +67,9 @@ fn begin_elements(page: &mut Page, name: &[u8], first: usize) -> Result<(), Allo
 /// position on.
 pub fn write_piece(
     page: &mut Page,
-    name: &[u8],
+    name: &OwnName<'_>,
     first: usize,
-    numbers: &[i64],
+    numbers: &Content<'_>,
 ) -> Result<(), AllocError>
     requires some { 0 < length numbers.now }
     requires small { first + length numbers.now < 2 ^ 32 }
@@ -79,7 +86,7 @@ pub fn write_piece(
 }
 
 /// Writes what gives an element the least longlong.
-pub fn write_least(page: &mut Page, name: &[u8], position: usize) -> Result<(), AllocError>
+pub fn write_least(page: &mut Page, name: &OwnName<'_>, position: usize) -> Result<(), AllocError>
     ensures line { OnOk result (page.new.line ≡ line_text (least_line name.now position)) }
     ensures text { page.new.text ≡ page.old.text }
 {
@@ -88,22 +95,22 @@ pub fn write_least(page: &mut Page, name: &[u8], position: usize) -> Result<(), 
 }
 
 /// Begins the text of a view, up to the call.
-fn begin_view(page: &mut Page, name: &[u8], parent: &[u8]) -> Result<(), AllocError>
+fn begin_view(page: &mut Page, name: &OwnName<'_>, parent: &OwnName<'_>) -> Result<(), AllocError>
     ensures line { OnOk result (page.new.line
         ≡ ((name.now ++ codes " = ") ++ parent.now) ++ codes "->") }
     ensures text { page.new.text ≡ page.old.text }
 {
-    page.begin(name)?;
+    name.begin(page)?;
     page.extend(b" = ")?;
-    page.extend(parent)?;
+    parent.push(page)?;
     page.extend(b"->")
 }
 
 /// Writes what makes an affine view.
 pub fn write_affine(
     page: &mut Page,
-    name: &[u8],
-    parent: &[u8],
+    name: &OwnName<'_>,
+    parent: &OwnName<'_>,
     affine: &Affine,
 ) -> Result<(), AllocError>
     ensures line { OnOk result (page.new.line
@@ -117,10 +124,10 @@ pub fn write_affine(
 /// Writes what makes a view by the array that chooses.
 pub fn write_chosen(
     page: &mut Page,
-    name: &[u8],
-    parent: &[u8],
+    name: &OwnName<'_>,
+    parent: &OwnName<'_>,
     word: &[u8],
-    index: &[u8],
+    index: &OwnName<'_>,
 ) -> Result<(), AllocError>
     ensures line { OnOk result (page.new.line
         ≡ line_text (view_line name.now parent.now (chosen word.now index.now))) }
@@ -133,9 +140,9 @@ pub fn write_chosen(
 /// Writes what makes a view of windows.
 pub fn write_ranged(
     page: &mut Page,
-    name: &[u8],
-    parent: &[u8],
-    index: &[u8],
+    name: &OwnName<'_>,
+    parent: &OwnName<'_>,
+    index: &OwnName<'_>,
     sizes: &[i64],
     edge: Edge,
 ) -> Result<(), AllocError>
@@ -149,20 +156,20 @@ pub fn write_ranged(
 }
 
 /// Writes what gives another name to an array.
-pub fn write_same(page: &mut Page, name: &[u8], other: &[u8]) -> Result<(), AllocError>
+pub fn write_same(page: &mut Page, name: &[u8], other: &OwnName<'_>) -> Result<(), AllocError>
     ensures line { OnOk result (page.new.line ≡ line_text (same_line name.now other.now)) }
     ensures text { page.new.text ≡ page.old.text }
 {
     page.begin(name)?;
     page.extend(b" = ")?;
-    page.extend(other)
+    other.push(page)
 }
 
 /// Writes what ends a name.
-pub fn write_undef(page: &mut Page, name: &[u8]) -> Result<(), AllocError>
+pub fn write_undef(page: &mut Page, name: &OwnName<'_>) -> Result<(), AllocError>
     ensures line { OnOk result (page.new.line ≡ line_text (undef_line name.now)) }
     ensures text { page.new.text ≡ page.old.text }
 {
     page.begin(b"undef ")?;
-    page.extend(name)
+    name.push(page)
 }

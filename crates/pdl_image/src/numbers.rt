@@ -1,11 +1,14 @@
 //! The parts of lines, each appended to the line that is made.
-ghost use Rattle.std.specs.Prelude.{◌≡◌, ◌==◌, ◌∷◌, [], ◌++◌, map, OnOk, decimal};
+ghost use Rattle.std.specs.Prelude.{◌≡◌, ◌≤◌, ◌<◌, length, ◌==◌, ◌∷◌, [], ◌++◌, map, OnOk, decimal};
 ghost use Rattle.std.specs.Fmt.{signed_decimal};
 ghost use Rattle.std.specs.List.{list_any};
 ghost use Rattle.pdl_slices.specs.Written.{arg_text, end_text, more_text as more_args_text, slice_text, step_text};
+ghost use Rattle.pdl_image.specs.declared.TheConstants.{PART};
 ghost use Rattle.pdl_image.specs.Dump.{as_listed};
 ghost use Rattle.pdl_image.specs.Lines.{more_text, numbers_text, quote_of, quoted, sizes_text};
 
+use crate::PART;
+use crate::content::{Content, part_count};
 use crate::page::Page;
 use itoa::Buffer;
 use pdl_slices::SliceArg;
@@ -73,17 +76,40 @@ fn push_more_listed(page: &mut Page, numbers: &[i64]) -> Result<(), AllocError>
     Ok(())
 }
 
-/// Appends numbers as they stand in a list, with commas between them.
-pub fn push_listed(page: &mut Page, numbers: &[i64]) -> Result<(), AllocError>
+/// Appends the numbers of a part as they stand in a list, each behind a comma.
+fn push_part(page: &mut Page, part: &Content<'_>) -> Result<(), AllocError>
+    requires { length part.now ≤ PART }
+    ensures line { OnOk result (page.new.line
+        ≡ page.old.line ++ more_text (map as_listed part.now)) }
+    ensures text { page.new.text ≡ page.old.text }
+{
+    let mut room = [0; PART];
+    let count = part.len();
+    part.read(&mut room[..count]);
+    push_more_listed(page, &room[..count])
+}
+
+/// Appends numbers as they stand in a list, each behind a comma, part by part.
+fn push_parts(page: &mut Page, numbers: &Content<'_>) -> Result<(), AllocError>
+    ensures line { OnOk result (page.new.line
+        ≡ page.old.line ++ more_text (map as_listed numbers.now)) }
+    ensures text { page.new.text ≡ page.old.text }
+{
+    for p in 0..part_count(numbers.len()) {
+        push_part(page, &numbers.part(p))?;
+    }
+    Ok(())
+}
+
+/// Appends numbers, at least one, as they stand in a list, with commas between them.
+pub fn push_listed(page: &mut Page, numbers: &Content<'_>) -> Result<(), AllocError>
+    requires { 0 < length numbers.now }
     ensures line { OnOk result (page.new.line
         ≡ page.old.line ++ numbers_text (map as_listed numbers.now)) }
     ensures text { page.new.text ≡ page.old.text }
 {
-    let [first, more @ ..] = numbers else {
-        return Ok(());
-    };
-    push_number(page, as_listed(*first))?;
-    push_more_listed(page, more)
+    push_number(page, as_listed(numbers.head()))?;
+    push_parts(page, &numbers.cut(1, numbers.len()))
 }
 
 /// Appends sizes, each behind a comma.

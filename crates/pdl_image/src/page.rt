@@ -1,5 +1,5 @@
 //! The bytes of a text, and behind them those of the line that is made.
-ghost use Rattle.std.specs.Prelude.{◌≡◌, ◌∷◌, [], ◌++◌, length, take, OnOk};
+ghost use Rattle.std.specs.Prelude.{◌≡◌, ◌≤◌, ◌<◌, ◌+◌, ◌/◌, ◌∷◌, [], ◌++◌, length, take, max, vec_capacity, vec_len, OnErr, OnOk};
 
 use std::alloc::{AllocError, Global};
 use std::marker::Model;
@@ -24,10 +24,15 @@ impl Model for Page {
     ghost invariant = { λ p. p.mark ≤ length p.bytes.items };
 }
 
-/// Makes room for so many more bytes. Where there is too little, the bytes get room for half as many
-/// again as they are, at least.
+/// Makes room for so many more bytes. Where there is too little, the bytes get room for half as
+/// many again as they are, at least.
 fn make_room(bytes: &mut Vec<u8>, count: usize) -> Result<(), AllocError>
-    ensures { bytes.new.items ≡ bytes.old.items }
+    ensures items { bytes.new.items ≡ bytes.old.items }
+    ensures room { let len = vec_len bytes.old in
+        OnOk result (len + count ≤ vec_capacity bytes.new) }
+    ensures no_more { let len = vec_len bytes.old in
+        vec_capacity bytes.new ≤ max (vec_capacity bytes.old) (len + max count (len / 2)) }
+    ensures full { OnErr result (vec_capacity bytes.old < vec_len bytes.old + count) }
 {
     let spare = bytes.capacity() - bytes.len();
     if spare < count {
@@ -47,11 +52,6 @@ impl Page {
         }
     }
 
-    /// What gives the memory.
-    pub fn alloc(&self) -> Global {
-        *self.bytes.allocator()
-    }
-
     /// How many bytes the text has.
     pub fn text_len(&self) -> usize
         ensures { result ≡ length self.now.text }
@@ -69,6 +69,7 @@ impl Page {
     /// Appends bytes to the line.
     pub fn extend(&mut self, bytes: &[u8]) -> Result<(), AllocError>
         ensures line { OnOk result (self.new.line ≡ self.old.line ++ bytes.now) }
+        ensures err { OnErr result (self.new.line ≡ self.old.line) }
         ensures text { self.new.text ≡ self.old.text }
     {
         make_room(&mut self.bytes, bytes.len())?;
@@ -78,18 +79,27 @@ impl Page {
     /// Appends a byte to the line.
     pub fn push(&mut self, byte: u8) -> Result<(), AllocError>
         ensures line { OnOk result (self.new.line ≡ self.old.line ++ byte ∷ []) }
+        ensures err { OnErr result (self.new.line ≡ self.old.line) }
         ensures text { self.new.text ≡ self.old.text }
     {
         make_room(&mut self.bytes, 1)?;
         Ok(self.bytes.push(byte)?)
     }
 
+    /// Takes the line away.
+    fn leave_line(&mut self)
+        ensures { self.new ≡ record { text = self.old.text; line = [] } }
+    {
+        self.bytes.truncate(self.mark);
+    }
+
     /// Begins the line with these bytes, in place of what was there before.
     pub fn begin(&mut self, bytes: &[u8]) -> Result<(), AllocError>
         ensures line { OnOk result (self.new.line ≡ bytes.now) }
+        ensures err { OnErr result (self.new.line ≡ []) }
         ensures text { self.new.text ≡ self.old.text }
     {
-        self.bytes.truncate(self.mark);
+        self.leave_line();
         self.extend(bytes)
     }
 
@@ -100,11 +110,12 @@ impl Page {
         self.mark = self.bytes.len();
     }
 
-    /// Takes what stands past a place out of the text.
+    /// Takes what stands past a place out of the text, and the line.
     pub fn truncate(&mut self, place: usize)
-        ensures { self.new.text ≡ take place self.old.text }
+        ensures { self.new ≡ record { text = take place self.old.text; line = [] } }
     {
         self.mark = self.mark.min(place);
+        self.leave_line();
     }
 
     /// The text.

@@ -1,19 +1,20 @@
 //! The lines of roots: zeros, and then the elements piece by piece.
-ghost use Rattle.std.specs.Prelude.{◌≡◌, ◌≤◌, ◌<◌, ◌^◌, ◌+◌, ◌-◌, ◌∷◌, [], min, take, drop, length, IfOk};
+ghost use Rattle.std.specs.Prelude.{◌≡◌, ◌≤◌, ◌<◌, ◌^◌, ◌+◌, ◌∷◌, [], length};
+ghost use Rattle.pdl_image.specs.declared.TheConstants.{PART};
 ghost use Rattle.pdl_image.specs.Adding.{Adds};
 ghost use Rattle.pdl_image.specs.Dump.{filling_lines, least_lines, piece_count, root_lines};
 
+use crate::content::{Content, part_count};
 use crate::draft::Draft;
-use crate::{ImageFault, PIECE};
-use pdl_buf::{Strided, strided_dims, strided_read, strided_type};
+use crate::own::OwnName;
+use crate::{ImageFault, PART, PIECE};
 use pdl_elem::Ty;
-use pdl_shape::{Dims, elements_of};
-use std::alloc::{AllocError, Global};
+use pdl_shape::Dims;
 
 /// Appends the line that gives an element the least longlong, if it has this number.
 fn add_if_least(
     draft: &mut Draft,
-    name: &[u8],
+    name: &OwnName<'_>,
     position: usize,
     number: i64,
 ) -> Result<(), ImageFault>
@@ -28,10 +29,10 @@ fn add_if_least(
     draft.add_least(name, position)
 }
 
-/// Appends a line for each least longlong among the elements from a position on.
-fn add_leasts(
+/// Appends a line for each least longlong among listed elements from a position on.
+fn add_listed_leasts(
     draft: &mut Draft,
-    name: &[u8],
+    name: &OwnName<'_>,
     first: usize,
     numbers: &[i64],
 ) -> Result<(), ImageFault>
@@ -46,97 +47,95 @@ fn add_leasts(
     Ok(())
 }
 
-/// Appends the lines that fill the elements from a position on.
-pub fn add_piece(
+/// Appends a line for each least longlong among a part's elements from a position on.
+fn add_part_leasts(
     draft: &mut Draft,
-    name: &[u8],
+    name: &OwnName<'_>,
     first: usize,
-    numbers: &[i64],
+    part: &Content<'_>,
+) -> Result<(), ImageFault>
+    requires short { length part.now ≤ PART }
+    requires small { first + length part.now < 2 ^ 32 }
+    ensures { Adds draft.old draft.new (least_lines name.now first part.now) result }
+{
+    let mut room = [0; PART];
+    let count = part.len();
+    part.read(&mut room[..count]);
+    add_listed_leasts(draft, name, first, &room[..count])
+}
+
+/// Appends a line for each least longlong among the elements from a position on, part by part.
+fn add_leasts(
+    draft: &mut Draft,
+    name: &OwnName<'_>,
+    first: usize,
+    numbers: &Content<'_>,
+) -> Result<(), ImageFault>
+    requires { first + length numbers.now < 2 ^ 32 }
+    ensures { Adds draft.old draft.new (least_lines name.now first numbers.now) result }
+{
+    // brings in that the text so far isn't too long
+    let _len = draft.len();
+    for p in 0..part_count(numbers.len()) {
+        add_part_leasts(draft, name, first + PART * p, &numbers.part(p))?;
+    }
+    Ok(())
+}
+
+/// The same, without a look at numbers of which none can be the least longlong.
+fn add_any_leasts(
+    draft: &mut Draft,
+    name: &OwnName<'_>,
+    first: usize,
+    numbers: &Content<'_>,
+) -> Result<(), ImageFault>
+    requires { first + length numbers.now < 2 ^ 32 }
+    ensures { Adds draft.old draft.new (least_lines name.now first numbers.now) result }
+{
+    if !numbers.can_be_least() {
+        // brings in that the text so far isn't too long
+        let _len = draft.len();
+        return Ok(());
+    }
+    add_leasts(draft, name, first, numbers)
+}
+
+/// Appends the lines that fill the elements from a position on.
+fn add_piece(
+    draft: &mut Draft,
+    name: &OwnName<'_>,
+    first: usize,
+    numbers: &Content<'_>,
 ) -> Result<(), ImageFault>
     requires { first + length numbers.now < 2 ^ 32 }
     ensures { Adds draft.old draft.new (filling_lines name.now first numbers.now) result }
 {
     draft.add_given(name, first, numbers)?;
-    add_leasts(draft, name, first, numbers)
+    add_any_leasts(draft, name, first, numbers)
 }
 
 /// How many pieces so many elements have.
-pub fn piece_count(count: usize) -> usize
+fn piece_count(count: usize) -> usize
     requires { count < 2 ^ 31 }
     ensures { result ≡ piece_count count }
 {
     (count + (PIECE - 1)) / PIECE
 }
 
-/// How many elements the piece from a position on has.
-pub fn piece_len(count: usize, first: usize) -> usize
-    ensures { result ≡ min PIECE (count - first) }
-{
-    if first < count && count - first < PIECE {
-        count - first
-    } else if first < count {
-        PIECE
-    } else {
-        0
-    }
-}
-
-/// So many elements of a window from a position on.
-fn block_of(
-    alloc: Global,
-    elems: &Strided<'_>,
-    first: usize,
-    count: usize,
-) -> Result<Vec<i64>, AllocError>
-    requires { first + count ≤ length elems.now.elems }
-    ensures { IfOk result (λ block. block.items ≡ take count (drop first elems.now.elems)) }
-{
-    let _all = elements_of(strided_dims(elems));
-    let mut block = vec![in alloc; 0; count]?;
-    strided_read(elems, first as u32, &mut block);
-    Ok(block)
-}
-
-/// The elements of a window from a position on, as many as a piece has.
-fn piece_of(alloc: Global, elems: &Strided<'_>, first: usize) -> Result<Vec<i64>, AllocError>
-    requires { first ≤ length elems.now.elems }
-    ensures { IfOk result (λ piece. piece.items ≡ take PIECE (drop first elems.now.elems)) }
-{
-    let count = elements_of(strided_dims(elems)) as usize;
-    block_of(alloc, elems, first, piece_len(count, first))
-}
-
-/// Appends the lines of a root that a window shows.
-pub fn add_root(draft: &mut Draft, name: &[u8], elems: &Strided<'_>) -> Result<(), ImageFault>
-    ensures { Adds draft.old draft.new
-        (root_lines name.now elems.now.ty elems.now.dims elems.now.elems) result }
-{
-    let dims = strided_dims(elems);
-    draft.add_zeros(name, strided_type(elems), dims)?;
-    for k in 0..piece_count(elements_of(dims) as usize) {
-        let piece = piece_of(draft.alloc(), elems, PIECE * k)?;
-        add_piece(draft, name, PIECE * k, &piece)?;
-    }
-    Ok(())
-}
-
 /// Appends the lines of a root of these numbers.
-pub fn add_numbers(
+pub fn add_root(
     draft: &mut Draft,
-    name: &[u8],
+    name: &OwnName<'_>,
     ty: Ty,
     dims: &Dims,
-    numbers: &[i64],
+    numbers: &Content<'_>,
 ) -> Result<(), ImageFault>
-    requires { length numbers.now < 2 ^ 31 }
     ensures { Adds draft.old draft.new
         (root_lines name.now ty dims.now numbers.now) result }
 {
     draft.add_zeros(name, ty, dims)?;
     for k in 0..piece_count(numbers.len()) {
-        let first = PIECE * k;
-        let end = first + piece_len(numbers.len(), first);
-        add_piece(draft, name, first, &numbers[first..end])?;
+        add_piece(draft, name, PIECE * k, &numbers.cut(PIECE * k, PIECE))?;
     }
     Ok(())
 }

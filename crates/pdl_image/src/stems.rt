@@ -1,9 +1,8 @@
 //! The stem of a dump's own names.
 ghost use Rattle.std.specs.Prelude.{◌≡◌, ◌++◌, [], IfOk, OnOk, OnErr};
 ghost use Rattle.std.specs.List.{cons_option};
-ghost use Rattle.pdl_image.specs.Stems.{index_name, is_in, least_free, name_at, stem, stem_in, underscores};
+ghost use Rattle.pdl_image.specs.Stems.{is_in, least_free, stem, stem_in, underscores};
 
-use itoa::Buffer;
 use pdl_elem::Name;
 use std::alloc::{AllocError, Global};
 use std::marker::Model;
@@ -106,29 +105,4 @@ fn stem(alloc: Global, count: u64) -> Result<Vec<u8>, AllocError>
     }
     bytes.push(b'd')?;
     Ok(bytes)
-}
-
-/// Begins a name with the stem, in place of what was there before.
-fn begin(name: &mut Vec<u8>, stem: &[u8]) -> Result<(), AllocError>
-    ensures { OnOk result (name.new.items ≡ stem.now) }
-{
-    name.clear();
-    name.extend_from_slice(stem)
-}
-
-/// Makes a text the name of the array with a number.
-pub fn write_name_at(name: &mut Vec<u8>, stem: &[u8], k: u64) -> Result<(), AllocError>
-    ensures { OnOk result (name.new.items ≡ name_at stem.now k) }
-{
-    let mut buffer = Buffer::new();
-    begin(name, stem)?;
-    name.extend_from_slice(buffer.format(k).as_bytes())
-}
-
-/// Makes a text the name of the array that a view chooses by.
-pub fn write_index_name(name: &mut Vec<u8>, stem: &[u8]) -> Result<(), AllocError>
-    ensures { OnOk result (name.new.items ≡ index_name stem.now) }
-{
-    begin(name, stem)?;
-    Ok(name.push(b'i')?)
 }

@@ -9,10 +9,10 @@ ghost use Rattle.pdl_image.specs.Dump.{edge_number, undef_lines, view_lines};
 ghost use Rattle.pdl_image.specs.Lines.{chosen, ranged, undef_line, view_line};
 
 use crate::ImageFault;
+use crate::content::Content;
 use crate::draft::Draft;
-use crate::masks::add_mask;
-use crate::pieces::add_numbers;
-use crate::stems::write_name_at;
+use crate::own::OwnName;
+use crate::pieces::add_root;
 use pdl_choice::Edge;
 use pdl_elem::Ty;
 use pdl_shape::{Dims, elements_of};
@@ -21,10 +21,10 @@ use pdl_world::Trans;
 /// Appends the line of a view by an array that chooses, and the line that ends the name of this.
 fn add_choice(
     draft: &mut Draft,
-    name: &[u8],
-    parent: &[u8],
+    name: &OwnName<'_>,
+    parent: &OwnName<'_>,
     word: &[u8],
-    by: &[u8],
+    by: &OwnName<'_>,
 ) -> Result<(), ImageFault>
     ensures { let view = view_line name.now parent.now (chosen word.now by.now) in
         Adds draft.old draft.new (view ∷ undef_line by.now ∷ []) result }
@@ -36,9 +36,9 @@ fn add_choice(
 /// Appends the lines of a view by an index.
 fn add_index(
     draft: &mut Draft,
-    name: &[u8],
-    parent: &[u8],
-    index: &[u8],
+    name: &OwnName<'_>,
+    parent: &OwnName<'_>,
+    index: &OwnName<'_>,
     dims: &Dims,
     ind: &[i64],
 ) -> Result<(), ImageFault>
@@ -46,16 +46,16 @@ fn add_index(
     ensures { Adds draft.old draft.new
         (view_lines name.now parent.now index.now (trans.Index dims.now ind.now)) result }
 {
-    add_numbers(draft, index, Ty::Longlong, dims, ind)?;
+    add_root(draft, index, Ty::Longlong, dims, &Content::listed(ind))?;
     add_choice(draft, name, parent, b"index", index)
 }
 
 /// Appends the lines of a view by a mask.
 fn add_where(
     draft: &mut Draft,
-    name: &[u8],
-    parent: &[u8],
-    index: &[u8],
+    name: &OwnName<'_>,
+    parent: &OwnName<'_>,
+    index: &OwnName<'_>,
     dims: &Dims,
     places: &[u32],
 ) -> Result<(), ImageFault>
@@ -63,7 +63,8 @@ fn add_where(
     ensures { Adds draft.old draft.new
         (view_lines name.now parent.now index.now (trans.Where dims.now places.now)) result }
 {
-    add_mask(draft, index, dims, places)?;
+    let mask = Content::marked(elements_of(dims) as usize, places);
+    add_root(draft, index, Ty::Byte, dims, &mask)?;
     add_choice(draft, name, parent, b"where", index)
 }
 
@@ -79,9 +80,9 @@ struct Windows<'a> {
 /// Appends the line of a view of windows, and the line that ends the name of their corners.
 fn add_windows(
     draft: &mut Draft,
-    name: &[u8],
-    parent: &[u8],
-    index: &[u8],
+    name: &OwnName<'_>,
+    parent: &OwnName<'_>,
+    index: &OwnName<'_>,
     windows: &Windows<'_>,
 ) -> Result<(), ImageFault>
     ensures { let call = ranged index.now windows.now.sizes.now (edge_number windows.now.edge) in
@@ -95,9 +96,9 @@ fn add_windows(
 /// Appends the lines of a view of windows.
 fn add_range(
     draft: &mut Draft,
-    name: &[u8],
-    parent: &[u8],
-    index: &[u8],
+    name: &OwnName<'_>,
+    parent: &OwnName<'_>,
+    index: &OwnName<'_>,
     windows: &Windows<'_>,
 ) -> Result<(), ImageFault>
     requires { length windows.now.ind.now < 2 ^ 31 }
@@ -105,16 +106,17 @@ fn add_range(
         (view_lines name.now parent.now index.now (trans.Range windows.now.dims.now
         windows.now.ind.now windows.now.sizes.now windows.now.edge)) result }
 {
-    add_numbers(draft, index, Ty::Longlong, windows.dims, windows.ind)?;
+    let corners = Content::listed(windows.ind);
+    add_root(draft, index, Ty::Longlong, windows.dims, &corners)?;
     add_windows(draft, name, parent, index, windows)
 }
 
 /// Appends the lines of a view.
 pub fn add_view(
     draft: &mut Draft,
-    name: &[u8],
-    parent: &[u8],
-    index: &[u8],
+    name: &OwnName<'_>,
+    parent: &OwnName<'_>,
+    index: &OwnName<'_>,
     trans: &Trans,
 ) -> Result<(), ImageFault>
     requires { IsTrue (is_well_formed trans.now) }
@@ -149,19 +151,13 @@ pub fn add_view(
 }
 
 /// Appends the lines that end the names of so many arrays.
-pub fn add_undefs(
-    draft: &mut Draft,
-    name: &mut Vec<u8>,
-    stem: &[u8],
-    count: u64,
-) -> Result<(), ImageFault>
+pub fn add_undefs(draft: &mut Draft, stem: &[u8], count: u64) -> Result<(), ImageFault>
     ensures { Adds draft.old draft.new (undef_lines stem.now count) result }
 {
     // brings in that the text so far isn't too long
     let _len = draft.len();
     for k in 0..count {
-        write_name_at(name, stem, k)?;
-        draft.add_undef(name)?;
+        draft.add_undef(&OwnName::array(stem, k))?;
     }
     Ok(())
 }

@@ -8,11 +8,12 @@ ghost use Rattle.pdl_image.specs.Lines.{kernel_line, same_line, script_of};
 ghost use Rattle.pdl_image.specs.Stems.{index_name, name_at};
 
 use crate::ImageFault;
+use crate::content::Content;
 use crate::draft::Draft;
+use crate::own::OwnName;
 use crate::pieces::add_root;
-use crate::stems::{write_index_name, write_name_at};
 use crate::views::{add_undefs, add_view};
-use pdl_buf::Strided;
+use pdl_buf::{Strided, strided_dims, strided_type};
 use pdl_elem::{Name, Text};
 use pdl_world::Trans;
 use std::alloc::Global;
@@ -29,10 +30,6 @@ pub struct ImageWriter {
     stem: Name,
     arrays: u64,
     draft: Draft,
-    // the names of the line that is made: of its array, and of what this is made of
-    name: Vec<u8>,
-    other: Vec<u8>,
-    index: Vec<u8>,
 }
 
 impl Model for ImageWriter {
@@ -60,21 +57,32 @@ fn settled(draft: &mut Draft, mark: usize, done: Result<(), ImageFault>) -> Resu
 }
 
 /// Appends the lines of a root, or none.
-fn add_whole_root(draft: &mut Draft, name: &[u8], elems: &Strided<'_>) -> Result<(), ImageFault>
+fn add_whole_root(
+    draft: &mut Draft,
+    name: &OwnName<'_>,
+    elems: &Strided<'_>,
+) -> Result<(), ImageFault>
     ensures { let lines = root_lines name.now elems.now.ty elems.now.dims elems.now.elems in
         Writes draft.old draft.new lines result }
 {
     let mark = draft.len();
-    let done = add_root(draft, name, elems);
+    let numbers = Content::shown(elems);
+    let done = add_root(
+        draft,
+        name,
+        strided_type(elems),
+        strided_dims(elems),
+        &numbers,
+    );
     settled(draft, mark, done)
 }
 
 /// Appends the lines of a view, or none.
 fn add_whole_view(
     draft: &mut Draft,
-    name: &[u8],
-    parent: &[u8],
-    index: &[u8],
+    name: &OwnName<'_>,
+    parent: &OwnName<'_>,
+    index: &OwnName<'_>,
     trans: &Trans,
 ) -> Result<(), ImageFault>
     requires { IsTrue (is_well_formed trans.now) }
@@ -95,9 +103,6 @@ impl ImageWriter {
             stem,
             arrays: 0,
             draft: Draft::new(alloc),
-            name: Vec::new(alloc),
-            other: Vec::new(alloc),
-            index: Vec::new(alloc),
         }
     }
 
@@ -126,8 +131,8 @@ impl ImageWriter {
             elems.now.elems in
             IfErr result (λ f. f ≡ ImageFault.TooLong → is_too_long self.old.text lines ≡ true) }
     {
-        write_name_at(&mut self.name, self.stem.bytes(), id)?;
-        add_whole_root(&mut self.draft, &self.name, elems)?;
+        let name = OwnName::array(self.stem.bytes(), id);
+        add_whole_root(&mut self.draft, &name, elems)?;
         self.arrays += 1;
         Ok(())
     }
@@ -146,10 +151,10 @@ impl ImageWriter {
             (name_at self.old.stem parent) (index_name self.old.stem) trans.now in
             IfErr result (λ f. f ≡ ImageFault.TooLong → is_too_long self.old.text lines ≡ true) }
     {
-        write_name_at(&mut self.name, self.stem.bytes(), id)?;
-        write_name_at(&mut self.other, self.stem.bytes(), parent)?;
-        write_index_name(&mut self.index, self.stem.bytes())?;
-        add_whole_view(&mut self.draft, &self.name, &self.other, &self.index, trans)?;
+        let stem = self.stem.bytes();
+        let name = OwnName::array(stem, id);
+        let other = OwnName::array(stem, parent);
+        add_whole_view(&mut self.draft, &name, &other, &OwnName::index(stem), trans)?;
         self.arrays += 1;
         Ok(())
     }
@@ -164,8 +169,8 @@ impl ImageWriter {
         ensures refused { let lines = same_line name.now (name_at self.old.stem id) ∷ [] in
             IfErr result (λ f. f ≡ ImageFault.TooLong → is_too_long self.old.text lines ≡ true) }
     {
-        write_name_at(&mut self.other, self.stem.bytes(), id)?;
-        self.draft.add_same(name.bytes(), &self.other)
+        let other = OwnName::array(self.stem.bytes(), id);
+        self.draft.add_same(name.bytes(), &other)
     }
 
     /// Writes the ends of the arrays' own names, and gives the whole text. A refusal gives up the
@@ -182,11 +187,8 @@ impl ImageWriter {
             stem,
             arrays,
             mut draft,
-            mut name,
-            other: _other,
-            index: _index,
         } = self;
-        add_undefs(&mut draft, &mut name, stem.bytes(), arrays)?;
+        add_undefs(&mut draft, stem.bytes(), arrays)?;
         Ok(draft.into_text())
     }
 }

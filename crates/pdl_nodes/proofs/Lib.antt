@@ -1,3 +1,4 @@
+mod Newest
 mod Lookups
 mod Finds
 mod Slots

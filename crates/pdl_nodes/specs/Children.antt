@@ -1,5 +1,5 @@
 -- The views of each array.
-use Rattle.std.specs.Prelude.{◌≡◌, ℕ, ◌+◌, ◌==◌, if◌then◌else◌, Bool, false, length, List, [], ◌∷◌, Option, Some, None}
+use Rattle.std.specs.Prelude.{◌≡◌, ℕ, ◌+◌, ◌==◌, if◌then◌else◌, Bool, false, length, List, [], ◌∷◌, Option, Some, None, IfSome}
 use Rattle.std.specs.List.{list_any}
 use Rattle.std.specs.Ordering.{nat_cmp}
 use Rattle.std.specs.Map.{lookup}
@@ -9,11 +9,11 @@ use Rattle.pdl_nodes.specs.Row.{parent_of}
 use Rattle.pdl_nodes.specs.Rows.{Rows}
 
 abbrev pub Noted : Type 0
-Noted = List (ℕ × BTreeSet ℕ)
+Noted = List (ℕ × List ℕ)
 
-abbrev pub numbers_or : Option (BTreeSet ℕ) → List ℕ
+abbrev pub numbers_or : Option (List ℕ) → List ℕ
 numbers_or None = []
-numbers_or (Some s) = s.keys
+numbers_or (Some us) = us
 
 -- the views of v that are noted
 abbrev pub views : Noted → ℕ → List ℕ
@@ -26,6 +26,15 @@ noted c v = length (views c v)
 -- whether a number is among these, as an ordered set says it
 abbrev pub has_number : List ℕ → ℕ → Bool
 has_number us u = list_any (is_at (nat_cmp u)) us
+
+-- the newest view, if it is kept apart, and the others
+abbrev pub numbers_of : (newest : Option ℕ) → (others : BTreeSet ℕ) → List ℕ
+numbers_of None s = s.keys
+numbers_of (Some u) s = u ∷ s.keys
+
+-- the newest view isn't among the others
+abbrev pub IsApart : (newest : Option ℕ) → (others : BTreeSet ℕ) → Type 0
+IsApart newest s = IfSome newest (λ u. has_number s.keys u ≡ false)
 
 -- whether u is noted as a view of v
 abbrev pub notes : Noted → (v u : ℕ) → Bool

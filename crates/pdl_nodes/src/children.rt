@@ -1,16 +1,110 @@
 //! The views of each array.
-ghost use Rattle.std.specs.Prelude.{◌≡◌, ◌≢◌, ℕ, ◌+◌, ◌-◌, ◌||◌, ◌==◌, if◌then◌else◌, true, false, [], Some, OnOk, OnErr};
+ghost use Rattle.std.specs.Prelude.{◌≡◌, ◌≢◌, ℕ, ◌+◌, ◌-◌, ◌||◌, ◌==◌, ◌∷◌, if◌then◌else◌, true, false, nat_lt, length, [], Some, OnOk, OnErr};
 ghost use Rattle.pdl_nodes.specs.Children.{AreSame, IsMore, has_number, is_view_of, noted, notes, views};
 
 use std::alloc::{AllocError, Global};
 use std::collections::{BTreeMap, BTreeSet};
 use std::marker::Model;
 
+/// The views of one array: the newest that came, until it goes or another comes, and the others. So
+/// a view that goes before another comes is never put into the set.
+#[derive(Drop)]
+struct Views {
+    newest: Option<u64>,
+    others: BTreeSet<u64>,
+}
+
+impl Model for Views {
+    ghost use Rattle.std.specs.Prelude.{ℕ, List};
+    ghost use Rattle.pdl_nodes.specs.Children.{IsApart, numbers_of};
+
+    ghost Value = { List ℕ };
+
+    ghost view = { λ v. numbers_of v.newest v.others };
+
+    ghost invariant = { λ v. IsApart v.newest v.others };
+}
+
+/// Puts a view into a set.
+fn put(known: &mut BTreeSet<u64>, view: u64) -> Result<(), AllocError>
+    ensures { OnOk result ((u : ℕ) → has_number known.new.keys u
+        ≡ if view == u then true else has_number known.old.keys u) }
+{
+    known.insert(view)?;
+    Ok(())
+}
+
+impl Views {
+    /// This view alone.
+    fn only(alloc: Global, view: u64) -> Views
+        ensures { result ≡ view ∷ [] }
+    {
+        Views {
+            newest: Some(view),
+            others: BTreeSet::new(alloc),
+        }
+    }
+
+    /// How many there are.
+    fn len(&self) -> u64
+        ensures { result ≡ length self.now }
+    {
+        let others = self.others.len() as u64;
+        match self.newest {
+            Some(_) => others + 1,
+            None => others,
+        }
+    }
+
+    /// Puts them into a set.
+    fn copy(&self, known: &mut BTreeSet<u64>) -> Result<(), AllocError>
+        ensures { OnOk result ((u : ℕ) → has_number known.new.keys u
+            ≡ (has_number known.old.keys u || has_number self.now u)) }
+    {
+        match self.newest {
+            Some(view) => put(known, view)?,
+            None => {}
+        }
+        known.extend(self.others.iter().copied())
+    }
+
+    /// Adds a view.
+    fn add(&mut self, view: u64) -> Result<(), AllocError>
+        requires absent { has_number self.old view ≡ false }
+        ensures count { OnOk result (length self.new ≡ length self.old + 1) }
+        ensures those { OnOk result
+            ((u : ℕ) → has_number self.new u ≡ if view == u then true else has_number self.old u) }
+        ensures err { OnErr result (self.new ≡ self.old) }
+    {
+        if let Some(before) = self.newest {
+            self.others.insert(before)?;
+        }
+        self.newest = Some(view);
+        Ok(())
+    }
+
+    /// Takes a view out. The answer says whether any is left.
+    fn take(&mut self, view: u64) -> bool
+        requires listed { has_number self.old view ≡ true }
+        ensures count { length self.old ≡ length self.new + 1 }
+        ensures those { (u : ℕ) → has_number self.new u
+            ≡ if view == u then false else has_number self.old u }
+        ensures left { result ≡ nat_lt 0 (length self.new) }
+    {
+        if self.newest == Some(view) {
+            self.newest = None;
+        } else {
+            self.others.remove(&view);
+        }
+        self.newest.is_some() || !self.others.is_empty()
+    }
+}
+
 /// The views of each array that has any, by their numbers.
 #[derive(Drop)]
 pub struct Children {
     alloc: Global,
-    by_parent: BTreeMap<u64, BTreeSet<u64>>,
+    by_parent: BTreeMap<u64, Views>,
 }
 
 impl Model for Children {
@@ -41,7 +135,7 @@ impl Children {
         ensures { result ≡ noted self.now id }
     {
         match self.by_parent.get(&id) {
-            Some(views) => views.len() as u64,
+            Some(views) => views.len(),
             None => 0,
         }
     }
@@ -52,7 +146,7 @@ impl Children {
             ≡ (has_number known.old.keys u || notes self.now id u)) }
     {
         match self.by_parent.get(&id) {
-            Some(views) => known.extend(views.iter().copied()),
+            Some(views) => views.copy(known),
             None => Ok(()),
         }
     }
@@ -67,16 +161,12 @@ impl Children {
         ensures err { OnErr result (views self.new id ≡ views self.old id) }
     {
         match self.by_parent.get_mut(&id) {
-            Some(views) => {
-                views.insert(view)?;
-            }
+            Some(views) => views.add(view),
             None => {
-                let mut views = BTreeSet::new(self.alloc);
-                views.insert(view)?;
-                self.by_parent.insert(id, views)?;
+                self.by_parent.insert(id, Views::only(self.alloc, view))?;
+                Ok(())
             }
         }
-        Ok(())
     }
 
     /// Notes one view less of an array.
@@ -89,8 +179,7 @@ impl Children {
     {
         match self.by_parent.get_mut(&id) {
             Some(views) => {
-                views.remove(&view);
-                if !views.is_empty() {
+                if views.take(view) {
                     return;
                 }
             }

@@ -230,6 +230,14 @@ impl Node {
         }
     }
 
+    /// Keeps these elements of the same type in the place of its own.
+    pub(crate) fn keep(&mut self, kept: Buf)
+        requires { kept.ty ≡ self.old.ty }
+        ensures { self.new ≡ record self.old { kept = kept.elems } }
+    {
+        self.kept = Some(kept);
+    }
+
     /// Puts the elements of a buffer at places of what is kept, in order. It takes a step for each.
     pub fn write<L: Ledger>(&mut self, places: &[Option<u32>], from: &Buf, steps: &mut Steps<L>)
         requires buffered { is_buffered self.old ≡ true }

@@ -218,11 +218,11 @@ impl Table {
         let Some(key) = self.keys.remove(id) else {
             return None;
         };
-        let node = self.nodes.remove(key);
+        let node = &self.nodes[key];
         let root = node.root();
         let parent = node.parent();
         // By a call, as in `insert`.
-        drop(node);
+        drop(self.nodes.remove(key));
         self.marked.forget(root, id);
         self.children.take(parent, id);
         parent
@@ -403,6 +403,19 @@ impl Table {
         self.nodes[key].put_in_order(first, values, steps);
         mark_at(&self.keys, &mut self.nodes, &mut self.marked, id, id, key);
         None
+    }
+
+    /// A root keeps these elements in the place of its own, and is marked alone of its family, as
+    /// `mark` does.
+    pub fn replace(&mut self, id: u64, kept: Buf)
+        requires order { InOrder self.old }
+        requires root { IsRoot self.old id }
+        requires same_type { kept.ty ≡ (row_at self.old id).ty }
+        ensures { self.new ≡ each (mark_in id id) (each (kept_in id kept.elems) self.old) }
+    {
+        let key = self.keys[id];
+        self.nodes[key].keep(kept);
+        mark_at(&self.keys, &mut self.nodes, &mut self.marked, id, id, key);
     }
 
     /// The oldest live number from this one on.

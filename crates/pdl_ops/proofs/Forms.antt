@@ -1,6 +1,6 @@
 -- The form of what an operator gives, and that it is an array.
-use Rattle.std.proofs.Common.{◌≡◌, ℕ, suc, ◌<◌, ◌≤◌, ℤ, pos, List, [], ◌∷◌, length, map, All, Result, Ok, Err, Option, Some, None, arith, refl, ap, ap₂, sym, subst, ◌∙◌}
-use Rattle.std.specs.Prelude.{Bool, true, false, get_or, if◌then◌else◌, position}
+use Rattle.std.proofs.Common.{◌≡◌, ℕ, ℤ, pos, List, [], ◌∷◌, length, map, All, Result, Ok, Err, Option, Some, None, refl, ap, ap₂, sym, subst, ◌∙◌}
+use Rattle.std.specs.Prelude.{Bool, false, get_or, if◌then◌else◌, position}
 use Rattle.std.specs.Ordering.{int_eq}
 use Rattle.std.proofs.lemmas.List.{length-map}
 use Rattle.std.proofs.lemmas.List.Elements.{All-cons, All-map, All-nil}
@@ -18,7 +18,7 @@ use Rattle.pdl_shape.specs.Shape.{size_of}
 use Rattle.pdl_shape.specs.Stretched.{stretched}
 use Rattle.pdl_buf.specs.Made.{IsMade}
 use Rattle.pdl_buf.specs.declared.made.Made.{Made}
-use Rattle.pdl_ops.specs.Elementwise.{OpRefusal, no_dims, converted, elementwise, made_of, of_alike, over, over_joined, unary_each, values_at, values_of}
+use Rattle.pdl_ops.specs.Elementwise.{OpRefusal, no_dims, converted, elementwise, made_of, over_joined, unary_each, values_at, values_of}
 use Rattle.pdl_ops.specs.Laws.{IsArray, IsUndivided, form, form_of}
 use Rattle.pdl_ops.proofs.Cuts.{length_pairs}
 use Rattle.pdl_ops.proofs.Results.{result_at, stretched_length}

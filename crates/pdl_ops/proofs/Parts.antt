@@ -1,14 +1,17 @@
 -- Lists that are made in blocks.
-use Rattle.std.proofs.Common.{◌≡◌, ℕ, ◌+◌, ◌≤◌, ℤ, List, ◌++◌, length, take, drop, map, All, arith, Some, None, Ok, Err, ap, ap₂, sym, subst, ◌∙◌, take-append-drop}
+use Rattle.std.proofs.Common.{◌≡◌, ℕ, ◌+◌, ◌≤◌, ℤ, List, [], ◌++◌, length, take, drop, map, All, Result, arith, Some, None, Ok, Err, is_ok, true, refl, ap, ap₂, sym, subst, ◌∙◌, take-append-drop}
 use Rattle.std.proofs.lemmas.List.{take-map, drop-map, take_all, length-take-le}
-use Rattle.std.proofs.lemmas.List.Elements.{All-append}
+use Rattle.std.proofs.lemmas.List.Elements.{All-append, All-nil}
 use Rattle.std.proofs.Math.Seq.{take-add}
 use Rattle.pdl_elem.specs.declared.BinaryOp.{BinaryOp}
 use Rattle.pdl_elem.specs.declared.Ty.{Ty}
 use Rattle.pdl_elem.specs.Blocks.{pairwise, zero_at}
 use Rattle.pdl_elem.specs.Operators.{value_of}
 use Rattle.pdl_elem.specs.Types.{InRange, binary_result}
-use Rattle.pdl_ops.specs.Elementwise.{values_of, values_at, zero_divisor}
+use Rattle.pdl_lexemes.specs.declared.AssignOp.{AssignOp}
+use Rattle.pdl_ops.specs.Elementwise.{OpRefusal, values_of, values_at, zero_divisor}
+use Rattle.pdl_ops.specs.Parts.{PartsAreCut, ValuesAreAsMany, part_values}
+use Rattle.pdl_ops.specs.Values.{new_values}
 use Rattle.pdl_ops.proofs.Lists.{pairwise_append}
 use Rattle.pdl_ops.proofs.Zeros.{zero_none, zero_after, zero_before}
 
@@ -67,3 +70,39 @@ made_never op ty xs ys made vs k n p h m f z =
     let found : zero_at op ys ≡ Some (length (take k ys) + p) =
     ap (zero_at op) (sym (take-append-drop (k + n) ys)) ∙ zero_before op (take (k + n) ys) (drop (k + n) ys) (length (take k ys) + p) front in
     ap (values_at op ty xs ys) (found ∙ ap (λ (q : ℕ). Some (q + p)) (length-take-le k ys h))
+
+-- ---- the values of an assignment
+
+-- the first k values are found
+pub record AreFound (sign : AssignOp) (t r : Ty) (old new : List ℤ) (k : ℕ) (made : List ℤ) : Type 0 where
+  pub made_is : (vs : List ℤ) → new_values sign t r old new ≡ Ok vs → made ≡ take k vs
+  pub in_range : All (InRange t) made
+
+pub found_first : (sign : AssignOp) (t r : Ty) (old new made : List ℤ) → made ≡ [] → AreFound sign t r old new 0 made
+found_first sign t r old new made e = record { made_is = λ vs is. e; in_range = subst (All (InRange t)) (sym e) (All-nil (InRange t)) }
+
+-- what there is
+some_values : (r : Result (List ℤ) OpRefusal) → is_ok r ≡ true → (vs : List ℤ) × (r ≡ Ok vs)
+some_values (Ok vs) t = (vs, refl)
+some_values (Err e) t = cc
+
+pub found_part : PartsAreCut → (sign : AssignOp) (t r : Ty) (old new : List ℤ) (k n : ℕ) → is_ok (new_values sign t r old new) ≡ true → is_ok (part_values sign t r k n old new) ≡ true
+found_part parts sign t r old new k n ok =
+    let vs = some_values (new_values sign t r old new) ok in
+    ap is_ok (parts sign t r old new vs.0 k n vs.1)
+
+pub found_more : PartsAreCut → (sign : AssignOp) (t r : Ty) (old new : List ℤ) (k n : ℕ) (made block next : List ℤ) → AreFound sign t r old new k made → part_values sign t r k n old new ≡ Ok block → All (InRange t) block
+    → next ≡ made ++ block → AreFound sign t r old new (k + n) next
+found_more parts sign t r old new k n made block next m b a e = record {
+  made_is = λ vs is. (let same : Ok block ≡ Ok (take n (drop k vs)) = sym b ∙ parts sign t r old new vs k n is in
+      let cut : block ≡ take n (drop k vs) = cc in
+      e ∙ ap₂ (λ (us ws : List ℤ). us ++ ws) (m.made_is vs is) cut ∙ sym (take-add k n vs));
+  in_range = subst (All (InRange t)) (sym e) (All-append (InRange t) made block m.in_range a);
+}
+
+pub found_all : ValuesAreAsMany → (sign : AssignOp) (t r : Ty) (old new : List ℤ) (k : ℕ) (made : List ℤ) → length old ≡ length new → length new ≤ k → is_ok (new_values sign t r old new) ≡ true
+    → AreFound sign t r old new k made → new_values sign t r old new ≡ Ok made
+found_all many sign t r old new k made paired past ok m =
+    let vs = some_values (new_values sign t r old new) ok in
+    let count : length vs.0 ≡ length new = many sign t r old new vs.0 paired vs.1 in
+    vs.1 ∙ ap Ok (sym (m.made_is vs.0 vs.1 ∙ take_all k vs.0 (omega (arith, count, past))))

@@ -1,5 +1,5 @@
 //! Operators and conversions of whole arrays (PDL::Ops, PDL::Core).
-ghost use Rattle.std.specs.Prelude.{◌≡◌, [], IfOk};
+ghost use Rattle.std.specs.Prelude.{◌≡◌, IfOk};
 ghost use Rattle.pdl_buf.specs.Made.{IsMade, array_of};
 ghost use Rattle.pdl_shape.specs.Broadcast.{BroadcastsTo};
 ghost use Rattle.pdl_shape.specs.Joined.{joined_dims};
@@ -9,8 +9,10 @@ ghost use Rattle.pdl_ops.specs.Elementwise.{converted, elementwise, of_alike, un
 use crate::OpFault;
 use crate::blocks::values;
 use crate::changes::{Change, changed_elements};
-use pdl_buf::{Elements, Made, Packing, Strided, stretched, strided_dims, strided_type};
-use pdl_elem::{BinaryOp, Ty, UnaryOp, binary_type, promote, unary_type};
+use pdl_buf::{
+    Elements, Made, Packing, Strided, stretched, strided_dims, strided_is_in_range, strided_type,
+};
+use pdl_elem::{BinaryOp, Ty, UnaryOp, binary_type, promote, unary_type, wrapping_laws};
 use pdl_shape::{Dims, ShapeFault, copy_dims, dims_list, elements_of, join_dims, shape_laws};
 use std::alloc::{AllocError, Global};
 
@@ -27,34 +29,9 @@ fn broadcast_dims(alloc: Global, a: &Dims, b: &Dims) -> Result<Dims, OpFault>
     }
 }
 
-/// How the elements of what is made are kept.
-#[derive(Clone, Copy, Drop)]
-pub enum Keeping {
-    /// In the width of their type, as an array keeps them.
-    Packed,
-    /// As a list of 64-bit numbers, for who assigns them.
-    Listed,
-}
-
-/// No numbers of the type, with room for so many.
-fn room(alloc: Global, keeping: Keeping, ty: Ty, count: usize) -> Result<Packing, AllocError>
-    ensures { IfOk result (λ room. room ≡ record { ty = ty; elems = [] }) }
-{
-    match keeping {
-        Keeping::Packed => Packing::new(alloc, ty, count),
-        Keeping::Listed => Packing::list(alloc, ty, count),
-    }
-}
-
 /// An operator of two operands of the same dimensions at each position, at the type of higher rank.
 /// It answers `DivideByZero` and `NoMemory` alone.
-fn of_alike(
-    alloc: Global,
-    op: BinaryOp,
-    a: &Strided<'_>,
-    b: &Strided<'_>,
-    keeping: Keeping,
-) -> Result<Made, OpFault>
+fn of_alike(alloc: Global, op: BinaryOp, a: &Strided<'_>, b: &Strided<'_>) -> Result<Made, OpFault>
     requires { a.now.dims ≡ b.now.dims }
     ensures value { let wanted = of_alike op (array_of a.now) (array_of b.now) in
         Answers (λ made. made) wanted result }
@@ -64,8 +41,8 @@ fn of_alike(
     let ty = binary_type(op, both, both);
     // that `a` has as many elements comes with its dimensions
     let (_same, dims) = (strided_dims(a), copy_dims(strided_dims(b)));
-    let room = room(alloc, keeping, ty, elements_of(&dims) as usize)?;
-    let elems = values(alloc, op, both, a, b, room)?;
+    let empty = Packing::new(alloc, ty, elements_of(&dims) as usize)?;
+    let elems = values(alloc, op, both, a, b, empty)?;
     Ok(Made {
         ty,
         dims,
@@ -87,34 +64,13 @@ pub fn elementwise(
         Answers (λ made. made) wanted result }
     ensures made { IfOk result (λ made. IsMade made.ty made.dims made.elems) }
 {
-    elementwise_kept(alloc, op, a, b, Keeping::Packed)
-}
-
-/// The same, whose elements are kept so.
-pub fn elementwise_kept(
-    alloc: Global,
-    op: BinaryOp,
-    a: &Strided<'_>,
-    b: &Strided<'_>,
-    keeping: Keeping,
-) -> Result<Made, OpFault>
-    ensures value { let wanted = elementwise op (array_of a.now) (array_of b.now) in
-        Answers (λ made. made) wanted result }
-    ensures made { IfOk result (λ made. IsMade made.ty made.dims made.elems) }
-{
     shape_laws();
     let (left, right) = (strided_dims(a), strided_dims(b));
     if dims_list(left) == dims_list(right) {
-        return of_alike(alloc, op, a, b, keeping);
+        return of_alike(alloc, op, a, b);
     }
     let dims = broadcast_dims(alloc, left, right)?;
-    of_alike(
-        alloc,
-        op,
-        &stretched(a, &dims),
-        &stretched(b, &dims),
-        keeping,
-    )
+    of_alike(alloc, op, &stretched(a, &dims), &stretched(b, &dims))
 }
 
 /// An operator of one operand at each element (PDL::Ops).
@@ -122,22 +78,9 @@ pub fn unary_each(alloc: Global, op: UnaryOp, a: &Strided<'_>) -> Result<Made, A
     ensures value { IfOk result (λ made. made ≡ unary_each op (array_of a.now)) }
     ensures made { IfOk result (λ made. IsMade made.ty made.dims made.elems) }
 {
-    unary_kept(alloc, op, a, Keeping::Packed)
-}
-
-/// The same, whose elements are kept so.
-pub fn unary_kept(
-    alloc: Global,
-    op: UnaryOp,
-    a: &Strided<'_>,
-    keeping: Keeping,
-) -> Result<Made, AllocError>
-    ensures value { IfOk result (λ made. made ≡ unary_each op (array_of a.now)) }
-    ensures made { IfOk result (λ made. IsMade made.ty made.dims made.elems) }
-{
     let ty = unary_type(op, strided_type(a));
-    let room = room(alloc, keeping, ty, elements_of(strided_dims(a)) as usize)?;
-    let elems = changed_elements(alloc, Change::Operator(op), a, room)?;
+    let empty = Packing::new(alloc, ty, elements_of(strided_dims(a)) as usize)?;
+    let elems = changed_elements(alloc, Change::Operator(op), a, empty)?;
     Ok(Made {
         ty,
         dims: copy_dims(strided_dims(a)),
@@ -150,24 +93,21 @@ pub fn convert(alloc: Global, ty: Ty, a: &Strided<'_>) -> Result<Made, AllocErro
     ensures value { IfOk result (λ made. made ≡ converted ty (array_of a.now)) }
     ensures made { IfOk result (λ made. IsMade made.ty made.dims made.elems) }
 {
-    convert_kept(alloc, ty, a, Keeping::Packed)
-}
-
-/// The same, whose elements are kept so.
-pub fn convert_kept(
-    alloc: Global,
-    ty: Ty,
-    a: &Strided<'_>,
-    keeping: Keeping,
-) -> Result<Made, AllocError>
-    ensures value { IfOk result (λ made. made ≡ converted ty (array_of a.now)) }
-    ensures made { IfOk result (λ made. IsMade made.ty made.dims made.elems) }
-{
-    let room = room(alloc, keeping, ty, elements_of(strided_dims(a)) as usize)?;
-    let elems = changed_elements(alloc, Change::Convert(ty), a, room)?;
+    let empty = Packing::new(alloc, ty, elements_of(strided_dims(a)) as usize)?;
+    let elems = changed_elements(alloc, Change::Convert(ty), a, empty)?;
     Ok(Made {
         ty,
         dims: copy_dims(strided_dims(a)),
         elems: Elements::packed(elems),
     })
+}
+
+/// A new array of what a window shows: a conversion to the type that it has.
+pub fn copied(alloc: Global, window: &Strided<'_>) -> Result<Made, AllocError>
+    ensures value { IfOk result (λ made. made ≡ array_of window.now) }
+    ensures made { IfOk result (λ made. IsMade made.ty made.dims made.elems) }
+{
+    wrapping_laws();
+    strided_is_in_range(window);
+    convert(alloc, strided_type(window), window)
 }

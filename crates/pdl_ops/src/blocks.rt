@@ -18,7 +18,7 @@ use pdl_shape::elements_of;
 use std::alloc::Global;
 
 /// For so many elements the operands and the values find room without an allocation.
-const FEW: usize = 16;
+pub(crate) const FEW: usize = 16;
 
 /// Sets the first `count` numbers of a room to the operator's values at the type on so many
 /// elements of two windows from a position on, of which there are enough. The room is three times

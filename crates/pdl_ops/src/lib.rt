@@ -14,15 +14,13 @@ mod laws;
 mod operands;
 mod values;
 
-pub use arrays::{
-    Keeping, convert, convert_kept, elementwise, elementwise_kept, unary_each, unary_kept,
-};
+pub use arrays::{convert, copied, elementwise, unary_each};
 pub use filling::fill;
 pub use fills::Fill;
 pub use in_parts::{first_divisor, stretches, value_laws, values_part};
 pub use laws::array_laws;
 use std::alloc::AllocError;
-pub use values::values_for;
+pub use values::{Keeping, values_for};
 
 /// Why there are no values, in the order in which a call answers these.
 #[derive(Clone, Copy, PartialEq, Eq, Debug)]

@@ -1,5 +1,6 @@
 -- Values that are put at the positions of a base, and at their places in the root.
-use Rattle.std.proofs.Common.{◌≡◌, ℕ, suc, zero, ℤ, pos, ◌<◌, Bool, true, false, cond, eqb, List, [], ◌∷◌, length, map, get_or, slice_set, Option, Some, None, refl, sym, ◌∙◌, ap, arith}
+use Rattle.std.proofs.Common.{◌≡◌, ℕ, suc, zero, ◌+◌, ℤ, pos, ◌<◌, Bool, true, false, cond, eqb, List, [], ◌∷◌, ◌++◌, length, length-append, append_assoc, map, get_or, slice_set, Option, Some, None, refl, sym, ◌∙◌, ap, arith}
+use Rattle.std.specs.List.{range_with_len}
 use Rattle.std.proofs.lemmas.Bool.{eqb-false}
 use Rattle.std.proofs.lemmas.List.{length-set, get_or-set_same, get_or-set_other, set-set, set_comm, set-get_or}
 use Rattle.std.proofs.lemmas.List.Elements.{All-head, All-tail}
@@ -118,3 +119,21 @@ read_all ps (i ∷ is) (x ∷ vs) ks es h a b e =
     read_all ps is vs (put (seen ps i) x ks) (put (entry ps i) x es) h (let P : ℕ → Type 0 = λ n. AllBelow n ps in rw (length_put (entry ps i) x es) a) b.1
     (ap (λ k. put (seen ps i) x k) e ∙ sym (read_seen ps es i x h a b.0))
     ∙ ap (read ps) (sym (write_first (entry ps i) (map (entry ps) is) x vs es))
+
+-- values for all places from one on, in order, are what stands there then
+set_here : (front : List ℤ) (x o : ℤ) (rest : List ℤ) → slice_set (front ++ o ∷ rest) (length front) x ≡ front ++ x ∷ rest
+set_here [] x o rest = refl
+set_here (f ∷ front) x o rest = ap (λ xs. f ∷ xs) (set_here front x o rest)
+
+written_on : (a : ℕ) (front vs old : List ℤ) → a ≡ length front → length old ≡ length vs → write (map Some (range_with_len a (length vs))) vs (front ++ old) ≡ front ++ vs
+written_on a front [] [] place many = refl
+written_on a front [] (o ∷ old) place many = absurd (omega (arith, many))
+written_on a front (x ∷ vs) [] place many = absurd (omega (arith, many))
+written_on a front (x ∷ vs) (o ∷ old) place many =
+    ap (write (map Some (range_with_len (a + 1) (length vs))) vs)
+    (ap (λ k. slice_set (front ++ o ∷ old) k x) place ∙ set_here front x o old ∙ sym (append_assoc front (x ∷ []) old))
+    ∙ written_on (a + 1) (front ++ x ∷ []) vs old (omega (arith, place, length-append front (x ∷ []))) (omega (arith, many))
+    ∙ append_assoc front (x ∷ []) vs
+
+pub written_whole : (n : ℕ) (vs old : List ℤ) → length vs ≡ n → length old ≡ n → write (map Some (range_with_len 0 n)) vs old ≡ vs
+written_whole n vs old count many = ap (λ k. write (map Some (range_with_len 0 k)) vs old) (sym count) ∙ written_on 0 [] vs old refl (many ∙ sym count)

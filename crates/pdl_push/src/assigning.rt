@@ -1,12 +1,13 @@
 //! Assigning: values that are assigned to an array wait in its base, until they are put into the
 //! root (PDL::Dataflow).
 ghost use Rattle.std.specs.Prelude.{◌≡◌, ◌≢◌, ◌+◌, length};
+ghost use Rattle.pdl_shape.specs.Shape.{size_of};
 ghost use Rattle.pdl_nodes.specs.Put.{IsWrite};
 ghost use Rattle.pdl_nodes.specs.Row.{shown_of};
 ghost use Rattle.pdl_nodes.specs.Rows.{row_at};
 ghost use Rattle.pdl_push.specs.Targets.{IsAssigned, WaitsTarget, target};
 
-use pdl_buf::Steps;
+use pdl_buf::{Buf, Steps};
 use pdl_nodes::{Goal, Shown, Table, row_laws};
 use std::sync::ledger::Ledger;
 
@@ -100,4 +101,18 @@ pub fn assign<L: Ledger>(
         Some(at) => assign_at_target(table, &at, first, values, steps),
         None => {}
     }
+}
+
+/// Assigns to a fresh root these elements, one for each of its positions, which it keeps in the
+/// place of its own. No element is moved, and it takes no memory.
+pub fn replace(table: &mut Table, id: u64, kept: Buf)
+    requires write { IsWrite table.old id 0 kept.elems }
+    requires root { (row_at table.old id).root ≡ id }
+    requires count { length kept.elems ≡ size_of (row_at table.old id).triple.dims }
+    requires same_type { kept.ty ≡ (row_at table.old id).ty }
+    ensures assigned { IsAssigned table.old id 0 kept.elems table.new }
+    ensures waits { WaitsTarget table.old id table.new }
+{
+    row_laws();
+    table.replace(id, kept)
 }

@@ -5,5 +5,5 @@
 mod assigning;
 mod settling;
 
-pub use assigning::assign;
+pub use assigning::{assign, replace};
 pub use settling::{settle, settle_all, write_back};

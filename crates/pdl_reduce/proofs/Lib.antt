@@ -1,5 +1,6 @@
 pub mod Examples
 pub mod Running
+pub mod Extremes
 pub mod Blocks
 pub mod Numbers
 pub mod Results

@@ -1,5 +1,5 @@
 -- What a list of numbers comes to as a whole.
-use Rattle.std.specs.Prelude.{ℕ, ◌+◌, ℤ, pos, ◌+ℤ◌, ◌*ℤ◌, List, [], ◌∷◌, length, map, take, fold, position}
+use Rattle.std.specs.Prelude.{◌≡◌, ◌⊎◌, ℕ, ◌+◌, ℤ, pos, ◌+ℤ◌, ◌*ℤ◌, List, [], ◌∷◌, ◌++◌, length, map, take, fold, position, Contains}
 use Rattle.std.specs.Int.{int_max, int_min}
 use Rattle.std.specs.List.{range_with_len}
 use Rattle.std.specs.Option.{unwrap_or}
@@ -30,3 +30,10 @@ first_place x xs = unwrap_or (position (λ y. int_eq y x) xs) 0
 -- what a function gives for the numbers up to each place, that one included
 abbrev pub at_prefixes : (List ℤ → ℤ) → List ℤ → List ℤ
 at_prefixes f xs = map (λ i. f (take (i + 1) xs)) (range_with_len 0 (length xs))
+
+-- a fold that picks one of the numbers, or its start: once it has come to what it picks in the end,
+-- it stays there
+pub record Picks (f : ℤ → ℤ → ℤ) : Type 0 where
+  pub one : (a : ℤ) (xs : List ℤ) → (fold f a xs ≡ a) ⊎ Contains xs (fold f a xs)
+  pub stays : (a : ℤ) (xs ys : List ℤ) → Contains xs (fold f a (xs ++ ys))
+      → fold f a xs ≡ fold f a (xs ++ ys)

@@ -1,16 +1,16 @@
 //! One list of a window's elements, reduced (PDL::Ufunc).
-ghost use Rattle.std.specs.Prelude.{◌≡◌, ◌<◌, ◌≤◌, ◌+◌, ◌++◌, [], ◌∷◌, pos, length, take, drop, IsTrue, OnOk};
+ghost use Rattle.std.specs.Prelude.{◌≡◌, ◌<◌, ◌≤◌, ◌+◌, ◌++◌, [], ◌∷◌, pos, length, take, drop, fold, get_or, IsTrue, OnOk};
 ghost use Rattle.pdl_shape.specs.Shape.{extent_limit};
 ghost use Rattle.pdl_elem.specs.Numbers.{wrapped};
 ghost use Rattle.pdl_elem.specs.Types.{InRange};
 ghost use Rattle.pdl_elem.specs.declared.Ty.TheVariants.{Long};
-ghost use Rattle.pdl_reduce.specs.Folds.{total, product, greatest, least, first_place};
+ghost use Rattle.pdl_reduce.specs.Folds.{Picks, total, product, greatest, least, first_place};
 ghost use Rattle.pdl_reduce.specs.Reductions.{is_extreme, reduced_row, reduced_type, sum_type};
 
 use crate::Reduction;
 use crate::collected::Collected;
-use crate::folds::{Adding, Falling, Multiplying, Rising};
-use crate::windows::{find_in_window, fold_window, run_window};
+use crate::folds::{Adding, Falling, Folding, Multiplying, Rising};
+use crate::windows::{find_in_window, fold_changes, fold_window, run_window};
 use pdl_buf::{Strided, strided_get, strided_sum, strided_type};
 use pdl_elem::{Ty, promote, wrap, wrapping_laws};
 use std::alloc::AllocError;
@@ -83,6 +83,25 @@ fn least_of(a: &Strided<'_>, first: u32, count: u32, block: &mut [i64]) -> i64
     fold_window::<Falling>(a, first, count, start, block)
 }
 
+/// The first place of what so many elements from a position on come to by a fold that picks one of
+/// them: it stands in the last block that changed what was picked.
+fn picked_place<F: Folding>(a: &Strided<'_>, first: u32, count: u32, block: &mut [i64]) -> i64
+    requires picks { Picks F.taken }
+    requires within { first + count ≤ length a.now.elems }
+    requires small { length a.now.elems ≤ extent_limit }
+    requires some { 0 < count }
+    requires room { 0 < length block.old }
+    ensures value { let xs = take count (drop first a.now.elems) in
+        result ≡ pos (first_place (fold F.taken (get_or xs 0 (pos 0)) xs) xs) }
+    ensures in_range { InRange Long result }
+{
+    let start = strided_get(a, first);
+    let folded = fold_changes::<F>(a, first, count, start, block);
+    let before = folded.changed;
+    let place = find_in_window(a, first + before, count - before, folded.value, block);
+    i64::from(before + place)
+}
+
 /// The first place of the greatest of so many elements from a position on.
 fn greatest_place(a: &Strided<'_>, first: u32, count: u32, block: &mut [i64]) -> i64
     requires within { first + count ≤ length a.now.elems }
@@ -93,8 +112,7 @@ fn greatest_place(a: &Strided<'_>, first: u32, count: u32, block: &mut [i64]) ->
         result ≡ pos (first_place (greatest xs) xs) }
     ensures in_range { InRange Long result }
 {
-    let greatest = greatest_of(a, first, count, block);
-    i64::from(find_in_window(a, first, count, greatest, block))
+    picked_place::<Rising>(a, first, count, block)
 }
 
 /// The first place of the least of so many elements from a position on.
@@ -107,8 +125,7 @@ fn least_place(a: &Strided<'_>, first: u32, count: u32, block: &mut [i64]) -> i6
         result ≡ pos (first_place (least xs) xs) }
     ensures in_range { InRange Long result }
 {
-    let least = least_of(a, first, count, block);
-    i64::from(find_in_window(a, first, count, least, block))
+    picked_place::<Falling>(a, first, count, block)
 }
 
 /// Puts one number more.

@@ -70,9 +70,8 @@ pub(crate) fn short_rows(sizes: Sizes, left: &Dims, right: &Dims, joined: &Dims)
     Some(Turns { left, right })
 }
 
-/// At how many places rows of these sizes are worked on at once: the rows of each side are no more
-/// numbers than a block.
-fn places_at_once(left: usize, right: usize) -> usize
+/// How many rows of either size a block has room for.
+fn rows_of_block(left: usize, right: usize) -> usize
     requires left { left ≤ SHORT }
     requires right { right ≤ SHORT }
     ensures some { 0 < result }
@@ -81,6 +80,19 @@ fn places_at_once(left: usize, right: usize) -> usize
     ensures right { result * right ≤ BLOCK }
 {
     BLOCK / left.max(right).max(1)
+}
+
+/// At how many of so many places rows of these sizes are worked on at once: the rows of each side
+/// are no more numbers than a block.
+fn places_at_once(left: usize, right: usize, total: u32) -> usize
+    requires left { left ≤ SHORT }
+    requires right { right ≤ SHORT }
+    ensures some { 0 < total → 0 < result }
+    ensures few { result ≤ BLOCK }
+    ensures left { result * left ≤ BLOCK }
+    ensures right { result * right ≤ BLOCK }
+{
+    rows_of_block(left, right).min(total as usize)
 }
 
 /// How many places from one on, at most so many, an array gives one row after the other, or one row
@@ -280,7 +292,7 @@ pub(crate) fn put_sums(
     wrapping_laws();
     let (left_size, right_size) = (sizes.left_depth, sizes.right_depth);
     let total = elements_of(joined);
-    let most = places_at_once(left_size, right_size);
+    let most = places_at_once(left_size, right_size, total);
     let mut left_room = vec![in alloc; 0; most * left_size]?;
     let mut right_room = vec![in alloc; 0; most * right_size]?;
     let mut sums_room = vec![in alloc; 0; most]?;

@@ -1,5 +1,5 @@
 //! Folds of a window's elements, read in blocks.
-ghost use Rattle.std.specs.Prelude.{◌≡◌, ◌<◌, ◌≤◌, ◌+◌, ◌++◌, length, fold, map, All, take, drop, position, IfOk, OnOk};
+ghost use Rattle.std.specs.Prelude.{◌≡◌, ◌≢◌, ◌<◌, ◌≤◌, ◌+◌, ◌++◌, length, fold, map, All, take, drop, position, IfOk, OnOk};
 ghost use Rattle.std.specs.List.{list_all, list_any};
 ghost use Rattle.std.specs.Ordering.{int_eq};
 ghost use Rattle.pdl_elem.specs.Numbers.{wrapped};
@@ -28,6 +28,51 @@ fn fold_part<F: Folding>(a: &Strided<'_>, first: u32, start: i64, part: &mut [i6
     fold_block::<F>(start, part)
 }
 
+/// What elements come to by a fold, and where the last block of them begins that changed it: at 0
+/// where none did.
+#[derive(Drop)]
+pub(crate) struct Folded {
+    pub(crate) value: i64,
+    pub(crate) changed: u32,
+}
+
+/// What so many elements of the window from a position on come to, from a start on, and how many of
+/// them stand before the last block that changed it. They are numbers of the window's type.
+pub(crate) fn fold_changes<F: Folding>(
+    a: &Strided<'_>,
+    first: u32,
+    count: u32,
+    start: i64,
+    block: &mut [i64],
+) -> Folded
+    requires within { first + count ≤ length a.now.elems }
+    requires small { length a.now.elems ≤ extent_limit }
+    requires room { 0 < count → 0 < length block.old }
+    ensures value { result.value ≡ fold F.taken start (take count (drop first a.now.elems)) }
+    ensures changed { 0 < result.changed →
+        fold F.taken start (take result.changed (drop first a.now.elems)) ≢ result.value }
+    ensures bound { result.changed ≤ count }
+    ensures in_range { All (InRange a.now.ty) (take count (drop first a.now.elems)) }
+{
+    let count = count as usize;
+    let mut so_far = start;
+    let mut changed = 0;
+    let mut done = 0;
+    while done < count {
+        let run = block.len().min(count - done);
+        let next = fold_part::<F>(a, first + done as u32, so_far, &mut block[..run]);
+        if next != so_far {
+            changed = done as u32;
+        }
+        so_far = next;
+        done += run;
+    }
+    Folded {
+        value: so_far,
+        changed,
+    }
+}
+
 /// What so many elements of the window from a position on come to, from a start on. They are
 /// numbers of the window's type.
 pub(crate) fn fold_window<F: Folding>(
@@ -43,15 +88,7 @@ pub(crate) fn fold_window<F: Folding>(
     ensures value { result ≡ fold F.taken start (take count (drop first a.now.elems)) }
     ensures in_range { All (InRange a.now.ty) (take count (drop first a.now.elems)) }
 {
-    let count = count as usize;
-    let mut so_far = start;
-    let mut done = 0;
-    while done < count {
-        let run = block.len().min(count - done);
-        so_far = fold_part::<F>(a, first + done as u32, so_far, &mut block[..run]);
-        done += run;
-    }
-    so_far
+    fold_changes::<F>(a, first, count, start, block).value
 }
 
 /// The first place of a number among the window's elements from a position on, as many as the part

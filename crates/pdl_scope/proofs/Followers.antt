@@ -19,7 +19,7 @@ use Rattle.pdl_flow.specs.Formula.{arrays_in}
 use Rattle.pdl_flow.specs.Inputs.{AreInputs, input_of, made_or, value_in}
 use Rattle.pdl_flow.specs.Laws.{MeaningLaws}
 use Rattle.pdl_flow.specs.Meaning.{meaning}
-use Rattle.pdl_flow.specs.declared.formula.Input.{Input}
+use Rattle.pdl_flow.specs.Inputs.{Given}
 use Rattle.pdl_world.specs.World.{World, Look, look, look_of_root, assign, dims_in, ty_in}
 use Rattle.pdl_world.specs.Paths.{root_of}
 use Rattle.pdl_world.specs.Sound.{IsSound, IsLive}
@@ -161,30 +161,31 @@ live_listed w (j ∷ ks) k live t = by_test (j == k)
     (λ same. subst (IsLive w) (eqb-true j k same) live.0)
     (λ other. let rest : is_listed ks k ≡ true = rw other at t in live_listed w ks k live.1 rest)
 
-listed_all : (P : ℕ → Type 0) (ks : List ℕ) → All P ks → (k : ℕ) → is_listed ks k ≡ true → P k
+-- and so is each that is listed
+pub listed_all : (P : ℕ → Type 0) (ks : List ℕ) → All P ks → (k : ℕ) → is_listed ks k ≡ true → P k
 listed_all P [] all k t = cc
 listed_all P (j ∷ ks) all k t = by_test (j == k)
     (λ same. subst P (eqb-true j k same) (All-head P j ks all))
     (λ other. let rest : is_listed ks k ≡ true = rw other at t in listed_all P ks (All-tail P j ks all) k rest)
 
 -- these arrays have inputs, each of what its array shows
-abbrev pub ShowAll : Arrays → List Input → List ℕ → Type 0
+abbrev pub ShowAll : Arrays → List Given → List ℕ → Type 0
 ShowAll b is ks = All (λ k. input_of is k ≡ Some (array_in b k)) ks
 
 -- the same inputs are those of the same arrays
-pub inputs_show : (b : Arrays) (is js : List Input) (ks qs : List ℕ) → js ≡ is → ks ≡ qs → ShowAll b is ks → ShowAll b js qs
+pub inputs_show : (b : Arrays) (is js : List Given) (ks qs : List ℕ) → js ≡ is → ks ≡ qs → ShowAll b is ks → ShowAll b js qs
 inputs_show b is js ks qs same alike h =
-    subst (λ (xs : List Input). ShowAll b xs qs) (sym same) (subst (ShowAll b is) alike h)
+    subst (λ (xs : List Given). ShowAll b xs qs) (sym same) (subst (ShowAll b is) alike h)
 
 -- each array that the formula reads has an input, which is what it shows
-pub are_inputs : ShownAreMade → (b : Arrays) (f : Flow) (inputs : List Input) → IsSound b.world → AreLive b.world (arrays_in f.formula) → ShowAll b inputs (arrays_in f.formula) → AreInputs inputs f.formula
+pub are_inputs : ShownAreMade → (b : Arrays) (f : Flow) (inputs : List Given) → IsSound b.world → AreLive b.world (arrays_in f.formula) → ShowAll b inputs (arrays_in f.formula) → AreInputs inputs f.formula
 are_inputs shown b f inputs sound live is =
     all_listed (λ k. IsSomeAnd (input_of inputs k) IsArray) (arrays_in f.formula)
     (λ k t. subst (λ (o : Option Made). IsSomeAnd o IsArray) (sym (listed_all (λ j. input_of inputs j ≡ Some (array_in b j)) (arrays_in f.formula) is k t))
     (shown b.world k sound (live_listed b.world (arrays_in f.formula) k live t)).1)
 
 -- so the formula is of them what it is of the arrays
-pub of_inputs : MeaningLaws → (b : Arrays) (f : Flow) (inputs : List Input) → ShowAll b inputs (arrays_in f.formula) → meaning (value_in inputs) f.formula ≡ meaning (array_in b) f.formula
+pub of_inputs : MeaningLaws → (b : Arrays) (f : Flow) (inputs : List Given) → ShowAll b inputs (arrays_in f.formula) → meaning (value_in inputs) f.formula ≡ meaning (array_in b) f.formula
 of_inputs laws b f inputs is =
     laws.same (value_in inputs) (array_in b) f.formula
     (All-weaker (λ k. input_of inputs k ≡ Some (array_in b k)) (λ k. value_in inputs k ≡ array_in b k) (λ k same. ap made_or same) (arrays_in f.formula) is)

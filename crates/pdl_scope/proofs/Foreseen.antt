@@ -35,7 +35,7 @@ attached_first f ws i =
     omega (arith, both, all)
 
 -- arrays that are made ready make none dearer
-rested : (e t : Engine) → IsResting e → IsResting t → SameArrays e t → StayFresh e t → CostsNoMore e t
+pub rested : (e t : Engine) → IsResting e → IsResting t → SameArrays e t → StayFresh e t → CostsNoMore e t
 rested e t old new same stay = none_dearer e t [] same.world new.sound old.sound old.lazy new.lazy stay
 
 one_slot : (e t : Engine) (o : Option ℕ) → CostsNoMore e t → IfSome o (IsLive e.world) → option_map_or (read_steps t) o 0 ≤ option_map_or (read_steps e) o 0

@@ -17,6 +17,7 @@ pub mod Watched
 pub mod Cuts
 pub mod Bounds
 pub mod Costs
+pub mod FlowCosts
 pub mod Dearer
 pub mod Newest
 pub mod Bound

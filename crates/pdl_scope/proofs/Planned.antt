@@ -20,8 +20,10 @@ use Rattle.pdl_world.specs.World.{World, Look, assign, dims_in, has_repeats, pla
 use Rattle.pdl_engine.specs.Reading.{IsWarm}
 use Rattle.pdl_engine.specs.State.{State as Engine, SameArrays, StayFresh, is_fresh}
 use Rattle.pdl_scope.specs.Assigning.{CanAssign}
-use Rattle.pdl_scope.specs.Plans.{AllCanAssign, AllForetell, AreApart, AreForetold, ArePlanned, IsChange, IsForetold, all_assigned, roots_in}
+use Rattle.pdl_scope.specs.Plans.{AllCanAssign, AllForetell, AreApart, AreFor, AreForetold, ArePlanned, IsChange, IsForetold, all_assigned, listed, roots_in}
 use Rattle.pdl_scope.specs.declared.following.Change.{Change}
+use Rattle.pdl_scope.specs.declared.following.Values.{Values}
+use Rattle.pdl_scope.specs.declared.following.Values.TheVariants.{Kept, Listed}
 use Rattle.pdl_scope.proofs.Followers.{listed_last}
 use Rattle.pdl_scope.proofs.Plans.{live_stays, root_stays, roots_more}
 
@@ -37,7 +39,7 @@ can_kept e t same stay v vs h = record {
 
 all_kept : (e t : Engine) → SameArrays e t → StayFresh e t → (cs : List Change) → AllCanAssign e cs → AllCanAssign t cs
 all_kept e t same stay [] h = tt
-all_kept e t same stay (c ∷ cs) h = (can_kept e t same stay c.target c.values.items h.0, all_kept e t same stay cs h.1)
+all_kept e t same stay (c ∷ cs) h = (can_kept e t same stay c.target (listed c.values) h.0, subst (λ (w : World). AreFor w c.target c.values) (sym same.world) h.1, all_kept e t same stay cs h.2)
 
 pub planned_kept : (e t : Engine) → SameArrays e t → StayFresh e t → (cs : List Change) → ArePlanned e cs → ArePlanned t cs
 planned_kept e t same stay cs h = record {
@@ -65,8 +67,8 @@ each_more w [] e c same h is = (subst (λ (x : World). IsLive x c.target) (sym s
 each_more w (b ∷ cs) e c same h is = (h.0, h.1, each_more w cs e c same h.2 is)
 
 can_more : (e : Engine) (cs : List Change) (c : Change) → AllCanAssign e cs → IsChange e c → AllCanAssign e (cs ++ c ∷ [])
-can_more e [] c h is = (is.can, tt)
-can_more e (b ∷ cs) c h is = (h.0, can_more e cs c h.1 is)
+can_more e [] c h is = (is.can, is.fit, tt)
+can_more e (b ∷ cs) c h is = (h.0, h.1, can_more e cs c h.2 is)
 
 pub planned_more : (e : Engine) (cs : List Change) (c : Change) → ArePlanned e cs → IsChange e c → is_listed (roots_in cs) c.root ≡ false → ArePlanned e (cs ++ c ∷ [])
 planned_more e cs c h is none = record {
@@ -87,6 +89,12 @@ type_by o = option_map_or (λ (l : Look). l.ty) o Byte
 abbrev pub dims_by : Option Look → List ℕ
 dims_by o = option_map_or (λ (l : Look). l.dims) o []
 
+-- so is the base of an array
+base_places : AssignmentsLeaveBases → (w : World) (v u : ℕ) (vs : List ℤ) → places_in (assign w v vs) (base (assign w v vs) u) ≡ places_in w (base w u)
+base_places bases w v u vs =
+    let kept : IsShownAsBefore w (assign w v vs) u = bases w v u vs in
+    ap (places_in (assign w v vs)) kept.base_is ∙ ap (λ (o : Option Look). option_map_or (λ (l : Look). l.places) o []) kept.base_look_is
+
 can_after : LooksStay → (e t : Engine) (v u : ℕ) (vs us : List ℤ) → IsAfter e t v vs → (root_of e.world u ≡ root_of e.world v → ⊥) → CanAssign e u us → CanAssign t u us
 can_after looks e t v u vs us h other can =
     let x : World = assign e.world v vs in
@@ -97,16 +105,24 @@ can_after looks e t v u vs us h other can =
       in_range = subst (λ (ty : Ty). All (InRange ty) us) (sym (ap (λ (w : World). ty_in w u) h.world ∙ ap type_by seen)) can.in_range;
     }
 
+-- values are for an array as before
+fit_after : LooksStay → AssignmentsLeaveBases → (w : World) (v u : ℕ) (vs : List ℤ) (values : Values) → AreFor w u values → AreFor (assign w v vs) u values
+fit_after looks bases w v u vs (Listed us) h = tt
+fit_after looks bases w v u vs (Kept k) h =
+    let seen = looks w v u vs in
+    (h.0 ∙ sym (ap type_by seen), h.1 ∙ sym (ap dims_by seen), ap has_repeats (base_places bases w v u vs) ∙ h.2)
+
 -- the others can be made still, and are apart
-pub all_after : LooksStay → (e t : Engine) (c : Change) (cs : List Change) → IsAfter e t c.target c.values.items → c.root ≡ root_of e.world c.target → is_listed (roots_in cs) c.root ≡ false
+pub all_after : LooksStay → AssignmentsLeaveBases → (e t : Engine) (c : Change) (cs : List Change) → IsAfter e t c.target (listed c.values) → c.root ≡ root_of e.world c.target → is_listed (roots_in cs) c.root ≡ false
     → AreApart e.world cs → AllCanAssign e cs → AllCanAssign t cs
-all_after looks e t c [] h own none apart can = tt
-all_after looks e t c (b ∷ cs) h own none apart can =
+all_after looks bases e t c [] h own none apart can = tt
+all_after looks bases e t c (b ∷ cs) h own none apart can =
     let parts = or_parts (b.root == c.root) (is_listed (roots_in cs) c.root) none in
     let other : root_of e.world b.target ≡ root_of e.world c.target → ⊥ =
     λ same. (let is : (b.root == c.root) ≡ true = eq-eqb b.root c.root (apart.0 ∙ same ∙ sym own) in clash is parts.0) in (
-      can_after looks e t c.target b.target c.values.items b.values.items h other can.0,
-      all_after looks e t c cs h own parts.1 apart.2 can.1,
+      can_after looks e t c.target b.target (listed c.values) (listed b.values) h other can.0,
+      subst (λ (w : World). AreFor w b.target b.values) (sym h.world) (fit_after looks bases e.world c.target b.target (listed c.values) b.values can.1),
+      all_after looks bases e t c cs h own parts.1 apart.2 can.2,
     )
   where
     clash : {b : Bool} → b ≡ true → b ≡ false → ⊥
@@ -116,33 +132,43 @@ all_after looks e t c (b ∷ cs) h own none apart can =
 pub warm_kept : AssignmentsLeaveBases → (e t : Engine) (v u : ℕ) (vs : List ℤ) → IsAfter e t v vs → (root_of e.world u ≡ root_of e.world v → ⊥) → IsWarm e u → IsWarm t u
 warm_kept bases e t v u vs h other warm none =
     let b = base e.world u in
-    let kept : IsShownAsBefore e.world (assign e.world v vs) u = bases e.world v u vs in
     let same : places_in t.world (base t.world u) ≡ places_in e.world b =
-    ap (λ (w : World). places_in w (base w u)) h.world ∙ ap (places_in (assign e.world v vs)) kept.base_is ∙ ap (λ (o : Option Look). option_map_or (λ (l : Look). l.places) o []) kept.base_look_is in
+    ap (λ (w : World). places_in w (base w u)) h.world ∙ base_places bases e.world v u vs in
     h.others u other (warm (ap has_repeats (sym same) ∙ none))
 
-listed_at : (cs : List Change) (i : ℕ) (c : Change) (r : ℕ) → i < length cs → c ≡ get_or cs i c → is_listed (roots_in cs) r ≡ false → (c.root == r) ≡ false
-listed_at [] i c r lt is none = absurd (omega (arith, lt))
-listed_at (b ∷ cs) zero c r lt is none = ap (λ (d : Change). d.root == r) is ∙ (or_parts (b.root == r) (is_listed (roots_in cs) r) none).0
-listed_at (b ∷ cs) (suc i) c r lt is none = listed_at cs i c r (omega (arith, lt)) is (or_parts (b.root == r) (is_listed (roots_in cs) r) none).1
+-- it was made as the first, and can be lent unless its base has repeats; those that are left are to other roots
+pub record IsMadeFirst (e : Engine) (c : Change) (left : List Change) : Type 0 where
+  pub warm : IsWarm e c.target
+  pub root : root_of e.world c.target ≡ c.root
+  pub apart : is_listed (roots_in left) c.root ≡ false
 
--- a later one is to another root than the first
-pub later_apart : (w : World) (b : Change) (cs : List Change) (i : ℕ) (c : Change) → AreApart w (b ∷ cs) → 0 < i → i < length (b ∷ cs) → c ≡ get_or (b ∷ cs) i c → (c.root == b.root) ≡ false
-later_apart w b cs zero c h pos lt is = absurd (omega (arith, pos))
-later_apart w b cs (suc i) c h pos lt is = listed_at cs i c b.root (omega (arith, lt)) is h.1
+-- once the next is made
+pub made_next : LooksStay → AssignmentsLeaveBases → (e t : Engine) (c d : Change) (left : List Change) → IsAfter e t d.target (listed d.values) → d.root ≡ root_of e.world d.target → IsMadeFirst e c (d ∷ left) → IsMadeFirst t c left
+made_next looks bases e t c d left h own made =
+    let parts = or_parts (d.root == c.root) (is_listed (roots_in left) c.root) made.apart in
+    let other : root_of e.world c.target ≡ root_of e.world d.target → ⊥ =
+    λ same. (let is : (d.root == c.root) ≡ true = eq-eqb d.root c.root (own ∙ sym same ∙ made.root) in clash is parts.0) in
+    record {
+      warm = warm_kept bases e t d.target c.target (listed d.values) h other made.warm;
+      root = ap (λ (w : World). root_of w c.target) h.world ∙ root_stays looks e.world d.target c.target (listed d.values) ∙ made.root;
+      apart = parts.1;
+    }
+  where
+    clash : {b : Bool} → b ≡ true → b ≡ false → ⊥
+    clash t f = cc
 
 -- the world stays sound, its numbers stay, and all is kept that was
 pub sound_after : AssignsSoundly → LooksStay → (w : World) (e : Engine) (cs : List Change) → ((v : ℕ) → ty_in w v ≡ ty_in e.world v) → AllCanAssign e cs → IsSound w → IsSound (all_assigned w cs)
 sound_after sound looks w e [] same can is = is
 sound_after sound looks w e (c ∷ cs) same can is =
-    let vs : List ℤ = c.values.items in
-    sound_after sound looks (assign w c.target vs) e cs (λ v. ap type_by (looks w c.target v vs) ∙ same v) can.1
+    let vs : List ℤ = listed c.values in
+    sound_after sound looks (assign w c.target vs) e cs (λ v. ap type_by (looks w c.target v vs) ∙ same v) can.2
     (sound w c.target vs is (subst (λ (ty : Ty). All (InRange ty) vs) (sym (same c.target)) can.0.in_range))
 
 pub numbers_after : NumbersStay → (n : ℕ) (w : World) (cs : List Change) → NumbersBelow n w → NumbersBelow n (all_assigned w cs)
 numbers_after stay n w [] h = h
-numbers_after stay n w (c ∷ cs) h = numbers_after stay n (assign w c.target c.values.items) cs (stay w n c.target c.values.items h)
+numbers_after stay n w (c ∷ cs) h = numbers_after stay n (assign w c.target (listed c.values)) cs (stay w n c.target (listed c.values) h)
 
 pub keeps_after : AssignsKeepAll → (w : World) (cs : List Change) (held : List ℕ) → KeepsAll w held → KeepsAll (all_assigned w cs) held
 keeps_after keeps w [] held h = h
-keeps_after keeps w (c ∷ cs) held h = keeps_after keeps (assign w c.target c.values.items) cs held (keeps w c.target c.values.items held h)
+keeps_after keeps w (c ∷ cs) held h = keeps_after keeps (assign w c.target (listed c.values)) cs held (keeps w c.target (listed c.values) held h)

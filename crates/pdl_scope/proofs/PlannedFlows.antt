@@ -3,17 +3,22 @@ use Rattle.std.proofs.Common.{◌≡◌, ℕ, ◌+◌, ◌<◌, ◌≤◌, Bool,
 use Rattle.std.specs.Prelude.{◌==◌, ◌||◌}
 use Rattle.std.proofs.lemmas.Bool.{or_from, or_left, or_right}
 use Rattle.std.proofs.lemmas.List.{drop_more}
+use Rattle.pdl_flow.specs.Formula.{arrays_in}
 use Rattle.pdl_world.specs.Swept.{is_listed}
-use Rattle.pdl_world.specs.World.{World}
+use Rattle.pdl_world.specs.World.{World, dims_in}
 use Rattle.pdl_engine.specs.State.{State as Engine, SameArrays, StayFresh}
 use Rattle.pdl_machine.specs.Arrays.{Arrays}
 use Rattle.pdl_machine.specs.Flows.{Flow, Flows, affected, is_flow, reads_from}
 use Rattle.pdl_machine.specs.Following.{AreFlows, follow, followed}
 use Rattle.pdl_watch.specs.Slots.{StartsWith}
-use Rattle.pdl_scope.specs.Plans.{ArePlanned, NoFlowIn, planned, roots_in}
+use Rattle.pdl_scope.specs.Costs.{ReadsNoDearer}
+use Rattle.pdl_scope.specs.FlowCosts.{follow_steps, followed_steps}
+use Rattle.pdl_scope.specs.Plans.{ArePlanned, NoFlowIn, planned, roots_in, values_in}
 use Rattle.pdl_scope.specs.Scope.{arrays_of}
 use Rattle.pdl_scope.specs.declared.following.Change.{Change}
-use Rattle.pdl_scope.proofs.Followers.{above_apart, affected_by, affected_past, flow_at, listed_last}
+use Rattle.pdl_scope.proofs.FlowCosts.{IsThere, follow_less, paid_first}
+use Rattle.pdl_scope.proofs.FlowsStay.{flow_live}
+use Rattle.pdl_scope.proofs.Followers.{above_apart, affected_by, affected_past, flow_at, listed_last, older_live}
 use Rattle.pdl_scope.proofs.Growing.{readied_arrays}
 
 -- The flows before this one follow the plan, and what follows it from here on is the rest of all that
@@ -119,3 +124,64 @@ none_added e0 e flows cs0 cs start i now f h lt is reads none =
     let here : reads_from e0.world f (roots_in cs) ≡ true = ap (λ (x : World). reads_from x f (roots_in cs)) (sym h.same.world) ∙ reads in
     let all : f ∷ affected e0.world (drop (i + 1) flows) (roots_in cs ++ f.root ∷ []) ≡ [] = sym (affected_by e0.world flows i (roots_in cs) f lt is here) ∙ h.rest none in
     cc
+
+-- ---- what the flows take that follow
+
+-- of the flows from this one on
+abbrev pub steps_from : (e0 : Engine) (flows : Flows) (i : ℕ) (cs : List Change) → ℕ
+steps_from e0 flows i cs = followed_steps e0 (planned (arrays_of e0) cs) (affected e0.world (drop i flows) (roots_in cs))
+
+-- this one is one of them
+steps_open : (e0 e : Engine) (flows : Flows) (cs0 cs : List Change) (start i now : ℕ) (f : Flow) → IsOn e0 flows cs0 start i e cs now → i < length flows → f ≡ get_or flows i f → reads_from e.world f (roots_in cs) ≡ true
+    → steps_from e0 flows i cs ≡ follow_steps e0 (planned (arrays_of e0) cs) f + followed_steps e0 (follow (planned (arrays_of e0) cs) f) (affected e0.world (drop (i + 1) flows) (roots_in cs ++ f.root ∷ []))
+steps_open e0 e flows cs0 cs start i now f h lt is reads =
+    let w : World = e0.world in
+    let here : reads_from w f (roots_in cs) ≡ true = ap (λ (x : World). reads_from x f (roots_in cs)) (sym h.same.world) ∙ reads in
+    ap (followed_steps e0 (planned (arrays_of e0) cs)) (affected_by w flows i (roots_in cs) f lt is here)
+
+-- those behind it follow what it adds
+steps_behind : (e0 e t : Engine) (flows : Flows) (cs0 cs ds : List Change) (start i now later : ℕ) (f : Flow) → IsOn e0 flows cs0 start i e cs now → IsAdded e cs f now t ds later
+    → steps_from e0 flows (i + 1) ds ≡ followed_steps e0 (follow (planned (arrays_of e0) cs) f) (affected e0.world (drop (i + 1) flows) (roots_in cs ++ f.root ∷ []))
+steps_behind e0 e t flows cs0 cs ds start i now later f h added =
+    let ahead : Flows = drop (i + 1) flows in
+    let one : planned (arrays_of e0) ds ≡ follow (planned (arrays_of e0) cs) f = subst (λ (b : Arrays). planned b ds ≡ follow (planned b cs) f) (readied_arrays e0 e h.same) added.follows in
+    ap (λ (rs : List ℕ). followed_steps e0 (planned (arrays_of e0) ds) (affected e0.world ahead rs)) added.roots
+    ∙ ap (λ (b : Arrays). followed_steps e0 b (affected e0.world ahead (roots_in cs ++ f.root ∷ []))) one
+
+-- it takes no more than at the start
+follow_here : (e0 e : Engine) (flows : Flows) (cs0 cs : List Change) (start i now : ℕ) (f : Flow) → AreFlows (arrays_of e0) flows → ReadsNoDearer e0 e → IsOn e0 flows cs0 start i e cs now → i < length flows → f ≡ get_or flows i f
+    → follow_steps e (planned (arrays_of e) cs) f ≤ follow_steps e0 (planned (arrays_of e0) cs) f
+follow_here e0 e flows cs0 cs start i now f all costs h lt is =
+    let at = (flow_at (arrays_of e0) flows i f all lt is).flow in
+    let there : IsThere e0.world f = record { root = flow_live (arrays_of e0) f at; reads = older_live e0.world f.root (arrays_in f.formula) at.older } in
+    let less = follow_less e0 e (planned (arrays_of e0) cs) f costs (ap (λ (w : World). dims_in w f.root) h.same.world) there in
+    let same : follow_steps e (planned (arrays_of e) cs) f ≡ follow_steps e (planned (arrays_of e0) cs) f = ap (λ (a : Arrays). follow_steps e (planned a cs) f) (readied_arrays e0 e h.same) in
+    omega (arith, less, same)
+
+-- what is paid goes on
+pub paid_added : (e0 e t : Engine) (flows : Flows) (cs0 cs ds : List Change) (start i now later begun spent paid : ℕ) (f : Flow) → AreFlows (arrays_of e0) flows → ReadsNoDearer e0 e → IsOn e0 flows cs0 start i e cs now → i < length flows → f ≡ get_or flows i f
+    → reads_from e.world f (roots_in cs) ≡ true → IsAdded e cs f now t ds later → spent + values_in cs + steps_from e0 flows i cs ≤ begun + values_in cs0 + steps_from e0 flows 0 cs0
+    → paid + values_in ds ≤ spent + values_in cs + follow_steps e (planned (arrays_of e) cs) f → paid + values_in ds + steps_from e0 flows (i + 1) ds ≤ begun + values_in cs0 + steps_from e0 flows 0 cs0
+paid_added e0 e t flows cs0 cs ds start i now later begun spent paid f all costs h lt is reads added so_far takes =
+    let less = follow_here e0 e flows cs0 cs start i now f all costs h lt is in
+    let opens = steps_open e0 e flows cs0 cs start i now f h lt is reads in
+    let behind = steps_behind e0 e t flows cs0 cs ds start i now later f h added in
+    omega (arith, less, opens, behind, so_far, takes)
+
+-- or ends where memory runs out
+pub paid_short : (e0 e : Engine) (flows : Flows) (cs0 cs : List Change) (start i now begun spent paid : ℕ) (f : Flow) → AreFlows (arrays_of e0) flows → ReadsNoDearer e0 e → IsOn e0 flows cs0 start i e cs now → i < length flows → f ≡ get_or flows i f
+    → reads_from e.world f (roots_in cs) ≡ true → spent + values_in cs + steps_from e0 flows i cs ≤ begun + values_in cs0 + steps_from e0 flows 0 cs0 → paid ≤ spent + follow_steps e (planned (arrays_of e) cs) f → paid ≤ begun + steps_from e0 flows 0 cs0
+paid_short e0 e flows cs0 cs start i now begun spent paid f all costs h lt is reads so_far takes =
+    let less = follow_here e0 e flows cs0 cs start i now f all costs h lt is in
+    let opens = steps_open e0 e flows cs0 cs start i now f h lt is reads in
+    let plain : spent + steps_from e0 flows i cs ≤ begun + steps_from e0 flows 0 cs0 = paid_first cs0 cs begun spent (steps_from e0 flows i cs) (steps_from e0 flows 0 cs0) h.behind so_far in
+    omega (arith, less, opens, plain, takes)
+
+-- a flow that doesn't follow takes nothing
+pub paid_past : (e0 e : Engine) (flows : Flows) (cs0 cs : List Change) (start i now spent most : ℕ) (f : Flow) → IsOn e0 flows cs0 start i e cs now → i < length flows → f ≡ get_or flows i f
+    → reads_from e.world f (roots_in cs) ≡ false → spent + values_in cs + steps_from e0 flows i cs ≤ most → spent + values_in cs + steps_from e0 flows (i + 1) cs ≤ most
+paid_past e0 e flows cs0 cs start i now spent most f h lt is none so_far =
+    let w : World = e0.world in
+    let here : reads_from w f (roots_in cs) ≡ false = ap (λ (x : World). reads_from x f (roots_in cs)) (sym h.same.world) ∙ none in
+    let past : steps_from e0 flows i cs ≡ steps_from e0 flows (i + 1) cs = ap (followed_steps e0 (planned (arrays_of e0) cs)) (affected_past w flows i (roots_in cs) f lt is here) in
+    omega (arith, past, so_far)

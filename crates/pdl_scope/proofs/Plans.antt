@@ -17,7 +17,7 @@ use Rattle.pdl_world.specs.Sound.{IsLive, IsSound}
 use Rattle.pdl_world.specs.Swept.{is_listed}
 use Rattle.pdl_world.specs.World.{World, ArrayDef, root, view, Look, look, look_of_root, assign, assign_through, dims_in, elements, has_repeats, is_among, root_elements, set_elements}
 use Rattle.pdl_engine.specs.State.{State as Engine}
-use Rattle.pdl_scope.specs.Plans.{AllCanAssign, AllForetell, AreApart, AreForetold, ArePlanned, IsChange, all_assigned, change_to, roots_in}
+use Rattle.pdl_scope.specs.Plans.{AllCanAssign, AllForetell, AreApart, AreForetold, ArePlanned, IsChange, all_assigned, change_to, listed, roots_in}
 use Rattle.pdl_scope.specs.declared.following.Change.{Change}
 
 -- the laws that are used here
@@ -107,7 +107,7 @@ are_there w (c ∷ cs) h = (h.0, are_there w cs h.2)
 -- nothing is seen otherwise through any array
 pub looks_after : LooksStay → (w : World) (cs : List Change) (u : ℕ) → look (all_assigned w cs) u ≡ look w u
 looks_after looks w [] u = refl
-looks_after looks w (c ∷ cs) u = looks_after looks (assign w c.target c.values.items) cs u ∙ looks w c.target u c.values.items
+looks_after looks w (c ∷ cs) u = looks_after looks (assign w c.target (listed c.values)) cs u ∙ looks w c.target u (listed c.values)
 
 pub live_after : LooksStay → (w : World) (cs : List Change) (u : ℕ) → IsLive w u → IsLive (all_assigned w cs) u
 live_after looks w cs u live = subst (λ (o : Option Look). IsSomeAnd o (λ l. Unit {0})) (sym (looks_after looks w cs u)) live
@@ -119,7 +119,7 @@ clash t f = cc
 untouched : Laws → (w : World) (cs : List Change) (u : ℕ) → AreApart w cs → is_listed (roots_in cs) (root_of w u) ≡ false → elements (all_assigned w cs) u ≡ elements w u
 untouched laws w [] u h none = refl
 untouched laws w (c ∷ cs) u h none =
-    let vs : List ℤ = c.values.items in
+    let vs : List ℤ = listed c.values in
     let parts = or_parts (c.root == root_of w u) (is_listed (roots_in cs) (root_of w u)) none in
     untouched laws (assign w c.target vs) cs u (apart_stays laws.looks w c.target vs cs h.2) (ap (is_listed (roots_in cs)) (root_stays laws.looks w c.target u vs) ∙ parts.1)
     ∙ others_stay laws w c.target u vs (λ e. clash (eq-eqb c.root (root_of w u) (h.0 ∙ sym e)) parts.0)
@@ -141,7 +141,7 @@ found_at w (b ∷ cs) r c apart there is = by_test (b.root == r)
 
 -- what shows of a root is what its assignment leaves
 left_by : Laws → (w : World) (cs : List Change) (u : ℕ) (c : Change) → AreApart w cs → AreThere w cs → IsLive w u → change_to cs (root_of w u) ≡ Some c
-    → elements (all_assigned w cs) u ≡ elements (assign w c.target c.values.items) u
+    → elements (all_assigned w cs) u ≡ elements (assign w c.target (listed c.values)) u
 left_by laws w [] u c apart there live is = cc
 left_by laws w (b ∷ cs) u c apart there live is = by_test (b.root == root_of w u)
     (λ same. let e : Some b ≡ Some c = rw same at is in
@@ -151,16 +151,16 @@ left_by laws w (b ∷ cs) u c apart there live is = by_test (b.root == root_of w
     let found : IsFound w (root_of w u) c = found_at w cs (root_of w u) c apart.2 there.1 rest in
     left_by laws x cs u c (apart_stays laws.looks w b.target vs cs apart.2) (there_stays laws.looks w b.target vs cs there.1) (live_stays laws.looks w b.target u vs live)
     (ap (change_to cs) (root_stays laws.looks w b.target u vs) ∙ rest)
-    ∙ behind laws w b.target c.target u vs c.values.items (ap (λ r. r == root_of w u) (sym apart.0) ∙ other) (sym found.own ∙ found.root) found.live live)
+    ∙ behind laws w b.target c.target u vs (listed c.values) (ap (λ r. r == root_of w u) (sym apart.0) ∙ other) (sym found.own ∙ found.root) found.live live)
   where
     vs : List ℤ
-    vs = b.values.items
+    vs = listed b.values
 
     x : World
     x = assign w b.target vs
 
     shown : Change → List ℤ
-    shown d = elements (assign w d.target d.values.items) u
+    shown d = elements (assign w d.target (listed d.values)) u
 
     some_same : (b c : Change) → Some b ≡ Some c → b ≡ c
     some_same b c e = cc
@@ -178,7 +178,7 @@ found_listed (b ∷ cs) r c is = by_test (b.root == r)
     (λ other. let rest : change_to cs r ≡ Some c = rw other at is in rw other (found_listed cs r c rest))
 
 -- what an array shows after the assignments, by the one to its root
-pub shown_found : Laws → (w : World) (cs : List Change) (u : ℕ) (c : Change) → AreForetold w cs → IsLive w u → change_to cs (root_of w u) ≡ Some c → elements (all_assigned w cs) u ≡ elements (assign w c.target c.values.items) u
+pub shown_found : Laws → (w : World) (cs : List Change) (u : ℕ) (c : Change) → AreForetold w cs → IsLive w u → change_to cs (root_of w u) ≡ Some c → elements (all_assigned w cs) u ≡ elements (assign w c.target (listed c.values)) u
 shown_found laws w cs u c h live is = left_by laws w cs u c h.apart (are_there w cs h.each) live is
 
 pub shown_kept : Laws → (w : World) (cs : List Change) (u : ℕ) → AreForetold w cs → change_to cs (root_of w u) ≡ None → elements (all_assigned w cs) u ≡ elements w u
@@ -194,8 +194,8 @@ found_change e cs r c h is = among cs h.foretold.apart h.foretold.each h.can is
     among : (ds : List Change) → AreApart e.world ds → AllForetell e.world ds → AllCanAssign e ds → change_to ds r ≡ Some c → IsChange e c
     among [] apart each can at = cc
     among (b ∷ ds) apart each can at = by_test (b.root == r)
-        (λ same. let found : Some b ≡ Some c = rw same at at in subst (IsChange e) (some_same b c found) (record { root = apart.0; foretells = each.1; can = can.0 }))
-        (λ other. let rest : change_to ds r ≡ Some c = rw other at at in among ds apart.2 each.2 can.1 rest)
+        (λ same. let found : Some b ≡ Some c = rw same at at in subst (IsChange e) (some_same b c found) (record { root = apart.0; foretells = each.1; can = can.0; fit = can.1 }))
+        (λ other. let rest : change_to ds r ≡ Some c = rw other at at in among ds apart.2 each.2 can.2 rest)
 
 -- a root is among those that are altered where an assignment is to it
 pub altered_found : (cs : List Change) (r : ℕ) → is_some (change_to cs r) ≡ is_listed (roots_in cs) r
@@ -241,6 +241,6 @@ pub roots_more : (cs : List Change) (c : Change) → roots_in (cs ++ c ∷ []) �
 roots_more [] c = refl
 roots_more (b ∷ cs) c = ap (λ (rs : List ℕ). b.root ∷ rs) (roots_more cs c)
 
-pub assigned_more : (w : World) (cs : List Change) (c : Change) → all_assigned w (cs ++ c ∷ []) ≡ assign (all_assigned w cs) c.target c.values.items
+pub assigned_more : (w : World) (cs : List Change) (c : Change) → all_assigned w (cs ++ c ∷ []) ≡ assign (all_assigned w cs) c.target (listed c.values)
 assigned_more w [] c = refl
-assigned_more w (b ∷ cs) c = assigned_more (assign w b.target b.values.items) cs c
+assigned_more w (b ∷ cs) c = assigned_more (assign w b.target (listed b.values)) cs c

@@ -9,5 +9,6 @@ pub mod Room
 pub mod Growth
 pub mod Assigning
 pub mod Costs
+pub mod FlowCosts
 pub mod Limits
 pub mod Plans

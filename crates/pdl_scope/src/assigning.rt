@@ -1,10 +1,10 @@
 //! Assignments to the arrays of a scope.
-ghost use Rattle.std.specs.Prelude.{◌≡◌, ◌+◌, ◌≤◌, ◌&&◌, true, false, [], IfOk, IfSome, OnOk, is_some, length, sum_by};
+ghost use Rattle.std.specs.Prelude.{◌≡◌, ◌≢◌, ◌+◌, ◌≤◌, ◌&&◌, Ok, true, false, [], IfOk, IfSome, OnOk, is_some, length, sum_by};
 ghost use Rattle.pdl_shape.specs.Shape.{size_of};
 ghost use Rattle.pdl_buf.specs.Made.{IsMade};
 ghost use Rattle.pdl_world.specs.Paths.{root_of};
 ghost use Rattle.pdl_world.specs.Sound.{IsLive};
-ghost use Rattle.pdl_world.specs.World.{dims_in, ty_in};
+ghost use Rattle.pdl_world.specs.World.{assign, dims_in, ty_in};
 ghost use Rattle.pdl_engine.specs.Reading.{IsWarm, KeepsViews, read_steps};
 ghost use Rattle.pdl_engine.specs.State.{is_fresh, SameArrays, StayFresh};
 ghost use Rattle.pdl_machine.specs.Arrays.{array_in};
@@ -12,26 +12,28 @@ ghost use Rattle.pdl_machine.specs.Flows.{followers, is_flow};
 ghost use Rattle.pdl_machine.specs.Following.{AreFlows};
 ghost use Rattle.pdl_machine.specs.Operators.{values_for};
 ghost use Rattle.pdl_machine.specs.State.{AreLive};
+ghost use Rattle.pdl_machine.specs.Step.{assigned};
 ghost use Rattle.pdl_machine.specs.Watches.{attached, notices};
 ghost use Rattle.pdl_watch.specs.Slots.{lists_of};
 ghost use Rattle.pdl_scope.specs.Answers.{AnswersAs, IfScript};
 ghost use Rattle.pdl_scope.specs.Assigning.{Assigns, CanAssign, GoesInBlocks, IsAlone};
 ghost use Rattle.pdl_scope.specs.Costs.{ReadsNoDearer};
-ghost use Rattle.pdl_scope.specs.Plans.{IsPlan};
+ghost use Rattle.pdl_scope.specs.FlowCosts.{following_steps};
+ghost use Rattle.pdl_scope.specs.Plans.{IsPlan, values_in};
 ghost use Rattle.pdl_scope.specs.Scope.{engine_of, arrays_of, OnlyReads};
 
 use crate::fault::ScopeFault;
 use crate::flows::KeptFlow;
-use crate::following::{Change, assign_all, is_followed, plan_flows};
+use crate::following::{Change, Values, assign_all, is_followed, plan_flows};
 use crate::reading::ready_two;
 use crate::scope::Scope;
 use crate::watching::{foreseen, lookups, reads_views};
 use pdl_assign::{BLOCK, assign_blocks, can_block};
-use pdl_buf::Steps;
+use pdl_buf::{Elements, Steps};
 use pdl_engine::{ArrayId, Engine};
 use pdl_lexemes::AssignOp;
 use pdl_machine::flow_laws;
-use pdl_ops::values_for;
+use pdl_ops::{Keeping, values_for};
 use pdl_shape::elements_of;
 use pdl_watch::Notice;
 use pdl_world::{assignment_laws, keeping_laws, part_laws};
@@ -44,10 +46,10 @@ impl Scope {
     /// changed. What is written are the values by the elements at the start, whether they are found
     /// all at once or block by block; and all values and notices are found before one value is
     /// written, which takes no memory. Each flow that reads, directly or through flows, an array of
-    /// the target's root takes at most one step of `runs`, and none where the script is refused. Where
-    /// none does it takes at most a step for each
-    /// position, beside those that it takes to read both arrays and each array that a slot is
-    /// attached to. What was assigned to can be lent afterwards, unless its base has repeats.
+    /// the target's root takes at most one step of `runs`, and none where the script is refused. It
+    /// takes at most a step for each position, beside those that it takes to read both arrays and each
+    /// array that a slot is attached to, and those of the flows that follow. What was assigned to can
+    /// be lent afterwards, unless its base has repeats.
     pub fn assign<L: Ledger, M: Ledger>(
         &mut self,
         sign: AssignOp,
@@ -74,10 +76,12 @@ impl Scope {
             → is_fresh e target ≡ true → is_fresh e value ≡ true → attached self.old.watches ≡ []
             → steps.new ≤ steps.old + size_of (dims_in e.world target) }
         ensures counted { let e = engine_of self.old in
-            followers e.world self.old.flows target ≡ [] →
+            let size = size_of (dims_in e.world target) in
             let watched = sum_by (read_steps e) (attached self.old.watches) in
-            steps.new ≤ steps.old + (read_steps e target + read_steps e value) + watched
-            + size_of (dims_in e.world target) }
+            let after = assigned sign self.old.arrays target value in
+            let flows = followers e.world self.old.flows target in
+            steps.new ≤ steps.old + (read_steps e target + read_steps e value) + watched + size
+            + following_steps e flows size after }
     {
         if !self.is_alone(target) {
             return self.assign_planned(sign, target, value, number, steps, runs);
@@ -184,6 +188,14 @@ impl Scope {
         }
     }
 
+    /// Whether flows follow an assignment to this array: then formulas read what is written.
+    fn has_followers(&self, target: ArrayId) -> bool
+        requires { IsLive self.now.arrays.world target }
+        ensures { result ≡ true → followers self.now.arrays.world self.now.flows target ≢ [] }
+    {
+        is_followed(&self.engine, &self.flows, self.engine.root(target))
+    }
+
     /// What `assign_alone` does, with a list of all values, which are found before one is written.
     fn assign_listed<L: Ledger>(
         &mut self,
@@ -208,10 +220,21 @@ impl Scope {
         part_laws();
         keeping_laws();
         flow_laws();
-        let values = match written(self.alloc, &mut self.engine, sign, target, value, steps) {
-            Ok(values) => values,
+        let listed = Keeping::Listed;
+        let found = written(
+            self.alloc,
+            &mut self.engine,
+            sign,
+            target,
+            value,
+            listed,
+            steps,
+        );
+        let found = match found {
+            Ok(found) => found,
             Err(fault) => return Err(fault),
         };
+        let values = found.into_vec(self.alloc)?;
         self.engine.assign(target, &values, steps);
         Ok(())
     }
@@ -241,16 +264,28 @@ impl Scope {
         ensures warm { OnOk result (IsWarm (engine_of self.new) target) }
         ensures views { KeepsViews self.new.arrays.world self.old.arrays.world }
         ensures counted { let e = engine_of self.old in
-            followers e.world self.old.flows target ≡ [] →
+            let size = size_of (dims_in e.world target) in
             let watched = sum_by (read_steps e) (attached self.old.watches) in
-            steps.new ≤ steps.old + (read_steps e target + read_steps e value) + watched
-            + size_of (dims_in e.world target) }
+            let after = assigned sign self.old.arrays target value in
+            let flows = followers e.world self.old.flows target in
+            steps.new ≤ steps.old + (read_steps e target + read_steps e value) + watched + size
+            + following_steps e flows size after }
     {
         assignment_laws();
         part_laws();
         keeping_laws();
         flow_laws();
-        let values = match written(self.alloc, &mut self.engine, sign, target, value, steps) {
+        let is_read = self.has_followers(target);
+        let found = written(
+            self.alloc,
+            &mut self.engine,
+            sign,
+            target,
+            value,
+            keeping_for(is_read),
+            steps,
+        );
+        let values = match found {
             Ok(values) => values,
             Err(fault) => return Err(fault),
         };
@@ -259,6 +294,7 @@ impl Scope {
             &mut self.engine,
             target,
             values,
+            is_read,
             &self.watches,
             &self.flows,
             steps,
@@ -272,37 +308,60 @@ impl Scope {
             &self.watches,
             steps,
         )?;
-        assign_all(&mut self.engine, &plan, steps);
+        assign_all(self.alloc, &mut self.engine, plan, steps);
         Ok(all)
     }
 }
 
-/// The plan of an assignment of these values to an array: itself, and those by which flows follow it.
+/// How the values of an assignment are kept, of which formulas read arrays or none does.
+fn keeping_for(is_read: bool) -> Keeping {
+    if is_read {
+        Keeping::Packed
+    } else {
+        Keeping::Listed
+    }
+}
+
+/// The plan of an assignment of these values to an array: itself, and those by which flows follow it,
+/// of which there is none where formulas don't read the values.
 fn planned<L: Ledger, M: Ledger>(
     alloc: Global,
     engine: &mut Engine,
     target: ArrayId,
-    values: Vec<i64>,
+    values: Elements,
+    is_read: bool,
     watches: &[Option<ArrayId>],
     flows: &[KeptFlow],
     steps: &mut Steps<L>,
     runs: &mut Steps<M>,
 ) -> Result<Vec<Change>, AllocError>
-    requires can { CanAssign engine.old target values.items }
+    requires can { CanAssign engine.old target values }
+    requires read { followers engine.old.world flows.now target ≡ [] → is_read ≡ false }
     requires watched { AreLive engine.old.world (attached watches.now) }
     requires flows { AreFlows (arrays_of engine.old) flows.now }
     requires unflowed { is_flow flows.now (root_of engine.old.world target) ≡ false }
     ensures plan { let e = engine.old in
-        IfOk result (λ cs. IsPlan e flows.now target values.items engine.new cs.items) }
+        IfOk result (λ cs. IsPlan e flows.now target values engine.new cs.items) }
     ensures same { SameArrays engine.old engine.new }
     ensures stay { StayFresh engine.old engine.new }
     ensures runs { let w = engine.old.world in
         runs.new ≤ runs.old + length (followers w flows.now target) }
-    ensures alone { followers engine.old.world flows.now target ≡ []
-        → (engine.new ≡ engine.old) × (steps.new ≡ steps.old) }
+    ensures counted { let e = engine.old in
+        let size = size_of (dims_in e.world target) in
+        let after = record (arrays_of e) { world = assign e.world target values } in
+        let flows = followers e.world flows.now target in
+        steps.new ≤ steps.old + following_steps e flows size (Ok after) }
+    ensures paid { let e = engine.old in
+        let size = size_of (dims_in e.world target) in
+        let after = record (arrays_of e) { world = assign e.world target values } in
+        let flows = followers e.world flows.now target in
+        IfOk result (λ cs. steps.new + values_in cs.items
+        ≤ steps.old + size + following_steps e flows size (Ok after)) }
+    ensures costs { IfOk result (λ cs. ReadsNoDearer engine.old engine.new) }
 {
     let many = lookups(engine, watches, flows, target);
-    let change = Change::new(engine, target, values, many)?;
+    let values = Values::new(alloc, engine, target, values, is_read, steps)?;
+    let change = Change::new(alloc, engine, target, values, many)?;
     let mut plan = vec![in alloc; change]?;
     let is_looked_at = !watches.is_empty() || reads_views(engine, flows);
     plan_flows(alloc, engine, flows, &mut plan, is_looked_at, steps, runs)?;
@@ -317,19 +376,20 @@ fn written_at_once(
     sign: AssignOp,
     target: ArrayId,
     value: ArrayId,
-) -> Option<Result<Vec<i64>, ScopeFault>>
+    keeping: Keeping,
+) -> Option<Result<Elements, ScopeFault>>
     requires target { IsLive engine.now.world target }
     requires value { IsLive engine.now.world value }
     ensures fresh { is_some result ≡ (is_fresh engine.now target && is_fresh engine.now value) }
     ensures value { let a = arrays_of engine.now in
         let wanted = values_for sign (array_in a target) (array_in a value) in
-        IfSome result (λ r. AnswersAs (λ vs. vs.items) wanted r) }
+        IfSome result (λ r. AnswersAs (λ vs. vs) wanted r) }
     ensures made { let w = engine.now.world in
-        IfSome result (λ r. IfOk r (λ vs. IsMade (ty_in w target) (dims_in w target) vs.items)) }
+        IfSome result (λ r. IfOk r (λ vs. IsMade (ty_in w target) (dims_in w target) vs)) }
 {
     let into = engine.try_lend(target)?;
     let from = engine.try_lend(value)?;
-    match values_for(alloc, sign, &into, &from) {
+    match values_for(alloc, sign, &into, &from, keeping) {
         Ok(values) => Some(Ok(values)),
         Err(fault) => Some(Err(ScopeFault::from(fault))),
     }
@@ -342,8 +402,9 @@ fn written<L: Ledger>(
     sign: AssignOp,
     target: ArrayId,
     value: ArrayId,
+    keeping: Keeping,
     steps: &mut Steps<L>,
-) -> Result<Vec<i64>, ScopeFault>
+) -> Result<Elements, ScopeFault>
     requires target { IsLive engine.old.world target }
     requires value { IsLive engine.old.world value }
     ensures same { SameArrays engine.old engine.new }
@@ -351,16 +412,17 @@ fn written<L: Ledger>(
     ensures costs { ReadsNoDearer engine.old engine.new }
     ensures fresh { OnOk result (is_fresh engine.new target ≡ true) }
     ensures value { let a = arrays_of engine.new in
-        AnswersAs (λ vs. vs.items) (values_for sign (array_in a target) (array_in a value)) result }
+        AnswersAs (λ vs. vs) (values_for sign (array_in a target) (array_in a value)) result }
     ensures made { let w = engine.new.world in
-        IfOk result (λ vs. IsMade (ty_in w target) (dims_in w target) vs.items) }
+        IfOk result (λ vs. IsMade (ty_in w target) (dims_in w target) vs) }
     ensures counted { let e = engine.old in
         steps.new ≤ steps.old + (read_steps e target + read_steps e value) }
 {
-    if let Some(found) = written_at_once(alloc, engine, sign, target, value) {
+    if let Some(found) = written_at_once(alloc, engine, sign, target, value, keeping) {
         return found;
     }
     ready_two(engine, target, value, steps)?;
-    let values = values_for(alloc, sign, &engine.lend(target), &engine.lend(value))?;
+    let (into, from) = (engine.lend(target), engine.lend(value));
+    let values = values_for(alloc, sign, &into, &from, keeping)?;
     Ok(values)
 }

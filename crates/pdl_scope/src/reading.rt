@@ -2,7 +2,7 @@
 ghost use Rattle.std.specs.Prelude.{◌≡◌, IsTrue, ◌+◌, ◌≤◌, ◌<◌, length, All, IfOk, None, is_some, true, OnOk};
 ghost use Rattle.pdl_elem.specs.Types.{InRange};
 ghost use Rattle.pdl_shape.specs.Shape.{size_of};
-ghost use Rattle.pdl_buf.specs.Made.{IsMade, array_of};
+ghost use Rattle.pdl_buf.specs.Made.{IsMade};
 ghost use Rattle.pdl_choice.specs.Where.{rises, which};
 ghost use Rattle.pdl_ops.specs.Elementwise.{converted};
 ghost use Rattle.pdl_world.specs.World.{dims_in, ty_in, elements};
@@ -15,11 +15,11 @@ ghost use Rattle.pdl_scope.specs.Costs.{ReadsNoDearer};
 ghost use Rattle.pdl_scope.specs.Scope.{engine_of, OnlyReads};
 
 use crate::scope::Scope;
-use pdl_buf::{Made, Steps, Strided, strided_get, strided_is_in_range, strided_type};
+use pdl_buf::{Made, Steps, strided_get};
 use pdl_choice::{Positions, which_places};
-use pdl_elem::{Ty, wrapping_laws};
+use pdl_elem::Ty;
 use pdl_engine::{ArrayId, Engine, all_shown};
-use pdl_ops::convert;
+use pdl_ops::{convert, copied};
 use pdl_shape::elements_of;
 use std::alloc::{AllocError, Global};
 use std::sync::ledger::Ledger;
@@ -85,7 +85,7 @@ impl Scope {
         ensures counted { steps.new ≤ steps.old + read_steps (engine_of self.old) id }
     {
         ready(&mut self.engine, id, steps)?;
-        copy_of(self.alloc, &self.engine.lend(id))
+        copied(self.alloc, &self.engine.lend(id))
     }
 
     /// A new array of an array's elements, each wrapped to a type.
@@ -126,16 +126,6 @@ impl Scope {
         let numbers = self.numbers(id, steps)?;
         which_places(self.alloc, &numbers)
     }
-}
-
-/// A new array of what a window shows: a conversion to the type that it has.
-fn copy_of(alloc: Global, window: &Strided<'_>) -> Result<Made, AllocError>
-    ensures value { IfOk result (λ m. m ≡ array_of window.now) }
-    ensures made { IfOk result (λ m. IsMade m.ty m.dims m.elems) }
-{
-    wrapping_laws();
-    strided_is_in_range(window);
-    convert(alloc, strided_type(window), window)
 }
 
 /// Makes an array one that can be lent. Where it is one already, nothing else is looked at and no

@@ -14,7 +14,7 @@ ghost use Rattle.pdl_machine.specs.Flows.{all_read};
 ghost use Rattle.pdl_machine.specs.State.{AreLive};
 ghost use Rattle.pdl_machine.specs.Watches.{attach, attached, detach, notices, padded, slot_notices, trimmed, watch_of};
 ghost use Rattle.pdl_scope.specs.Answers.{Runs};
-ghost use Rattle.pdl_scope.specs.Plans.{ArePlanned, IsChange, all_assigned, roots_in};
+ghost use Rattle.pdl_scope.specs.Plans.{ArePlanned, IsChange, all_assigned, listed, roots_in};
 ghost use Rattle.pdl_scope.specs.Scope.{machine, slots_limit};
 
 use crate::fault::ScopeFault;
@@ -366,14 +366,14 @@ fn changes_foreseen<L: Ledger>(
     requires live { IsLive engine.old.world seen }
     requires own { IsChange engine.old change.now }
     ensures told { let w = engine.old.world in
-        let after = elements (assign w change.now.target change.now.values.items) seen in
+        let after = elements (assign w change.now.target (listed change.now.values)) seen in
         IfOk result (λ ns. ns.items ≡ changes number (elements w seen) after) }
     ensures same { SameArrays engine.old engine.new }
     ensures stay { StayFresh engine.old engine.new }
     ensures counted { steps.new ≤ steps.old + read_steps engine.old seen }
 {
     change_laws();
-    match change.foresee(engine, seen, steps)? {
+    match change.foresee(alloc, engine, seen, steps)? {
         Some(foreseen) => changes(alloc, number, &foreseen.before, &foreseen.after),
         None => Ok(Vec::new(alloc)),
     }

@@ -1,23 +1,33 @@
 -- Which flows an assignment affects, whatever new arrays came before it.
-use Rattle.std.proofs.Common.{◌≡◌, ℕ, List, [], ◌∷◌, ◌++◌, Bool, false, Ok, refl, sym, ap, ◌∙◌}
+use Rattle.std.proofs.Common.{◌≡◌, ◌≤◌, ℕ, List, [], ◌∷◌, ◌++◌, Bool, false, Result, Ok, refl, sym, ap, ◌∙◌, arith}
 use Rattle.std.specs.List.{list_any}
 use Rattle.std.specs.Option.{option_map_or}
 use Rattle.std.specs.Prelude.{◌||◌, if◌then◌else◌}
+use Rattle.pdl_shape.specs.Shape.{size_of}
 use Rattle.pdl_flow.specs.Formula.{arrays_in}
 use Rattle.pdl_world.specs.Laws.{OlderStay}
 use Rattle.pdl_world.specs.Paths.{root_of}
 use Rattle.pdl_world.specs.Sound.{IsLive, IsSound}
 use Rattle.pdl_world.specs.Swept.{is_listed}
-use Rattle.pdl_world.specs.World.{World, Look}
+use Rattle.pdl_world.specs.World.{World, Look, dims_in}
+use Rattle.pdl_lexemes.specs.declared.AssignOp.{AssignOp}
+use Rattle.pdl_machine.specs.declared.fault.Fault.{Fault}
 use Rattle.pdl_machine.specs.Arrays.{Arrays}
-use Rattle.pdl_machine.specs.Flows.{Flows, affected, all_read, is_flow, reads_from}
+use Rattle.pdl_machine.specs.Flows.{Flows, affected, all_read, followers, is_flow, reads_from}
 use Rattle.pdl_machine.specs.Laws.{AreGrown}
+use Rattle.pdl_machine.specs.Names.{Names}
+use Rattle.pdl_machine.specs.Outcome.{Valued}
 use Rattle.pdl_machine.specs.State.{AreLive, IsWhole}
-use Rattle.pdl_machine.specs.Step.{target_in}
+use Rattle.pdl_machine.specs.Step.{assigned, target_in}
+use Rattle.pdl_machine.specs.Then.{and_then}
+use Rattle.pdl_machine.specs.Value.{value_of}
 use Rattle.pdl_syntax.specs.Tree.{Tree}
+use Rattle.pdl_scope.specs.Costs.{IsInOrder}
+use Rattle.pdl_scope.specs.FlowCosts.{GrowingMakesNoFlowDearer, following_steps}
 use Rattle.pdl_scope.specs.Growth.{as_grown}
-use Rattle.pdl_scope.specs.Scope.{Scope, machine, Grows}
+use Rattle.pdl_scope.specs.Scope.{Scope, engine_of, machine, Grows}
 use Rattle.pdl_session.specs.Evaluations.{followers_of, followers_in}
+use Rattle.pdl_session.specs.Moves.{arrays_assigned, flows_steps, value_size}
 use Rattle.pdl_session.proofs.Grown.{grown_seen}
 use Rattle.pdl_session.proofs.Needs.{read_live}
 
@@ -85,3 +95,29 @@ aimed_affected old mid to v is g = ap (followers_of old.flows) is ∙ ap (λ (fs
 pub assigned_affected : OlderStay → (old mid late : Scope) (to : Tree) (v : ℕ) → target_in (machine old) to ≡ Ok (mid.arrays, v) → IsLive mid.arrays.world v → Grows old mid → Grows mid late → IsWhole (machine mid) → IsWhole (machine late)
     → affected late.arrays.world late.flows (root_of late.arrays.world v ∷ []) ≡ followers_in old to
 assigned_affected older old mid late to v is live g h whole after = late_affected older mid late v h whole after live ∙ sym (aimed_affected old mid to v is g)
+
+-- the arrays after an assignment whose sides came
+sides_assigned : (old mid late : Scope) (to : Tree) (sign : AssignOp) (e : Tree) (v u : ℕ) → target_in (machine old) to ≡ Ok (mid.arrays, v) → mid.names ≡ old.names → value_of mid.names mid.arrays e ≡ Ok (late.arrays, u)
+    → arrays_assigned old to sign e ≡ assigned sign late.arrays v u
+sides_assigned old mid late to sign e v u aimed names valued =
+    ap (λ (x : Valued). and_then x (λ p. and_then (value_of old.names p.0 e) (λ q. assigned sign q.0 p.1 q.1))) aimed
+    ∙ ap (λ (ns : Names). and_then (value_of ns mid.arrays e) (λ q. assigned sign q.0 v q.1)) (sym names)
+    ∙ ap (λ (x : Valued). and_then x (λ q. assigned sign q.0 v q.1)) valued
+
+-- the flows that follow it take no more than where its statement begins
+pub flows_within : GrowingMakesNoFlowDearer → OlderStay → (old mid late : Scope) (to : Tree) (sign : AssignOp) (e : Tree) (v u : ℕ) → IsInOrder old → IsInOrder mid → IsInOrder late → target_in (machine old) to ≡ Ok (mid.arrays, v) → IsLive mid.arrays.world v
+    → value_of mid.names mid.arrays e ≡ Ok (late.arrays, u) → Grows old mid → Grows mid late → Grows old late
+    → following_steps (engine_of late) (followers late.arrays.world late.flows v) (size_of (dims_in late.arrays.world v)) (assigned sign late.arrays v u) ≤ flows_steps old to sign e
+flows_within law older old mid late to sign e v u first middle last aimed live valued g h all =
+    let after : Result Arrays Fault = assigned sign late.arrays v u in
+    let size : size_of (dims_in late.arrays.world v) ≡ size_of (dims_in mid.arrays.world v) = ap (λ o. size_of (option_map_or (λ (l : Look). l.dims) o [])) (grown_seen older mid.arrays late.arrays v (as_grown mid late h) last.whole.sound live) in
+    let flows : followers late.arrays.world late.flows v ≡ followers mid.arrays.world old.flows v =
+    assigned_affected older old mid late to v aimed live g h middle.whole last.whole ∙ ap (followers_of old.flows) aimed in
+    let here : following_steps (engine_of late) (followers late.arrays.world late.flows v) (size_of (dims_in late.arrays.world v)) after ≡ following_steps (engine_of late) (followers mid.arrays.world old.flows v) (size_of (dims_in mid.arrays.world v)) after =
+    ap (λ (fs : Flows). following_steps (engine_of late) fs (size_of (dims_in late.arrays.world v)) after) flows
+    ∙ ap (λ n. following_steps (engine_of late) (followers mid.arrays.world old.flows v) n after) size in
+    let less = law old late first last all mid.arrays.world v (size_of (dims_in mid.arrays.world v)) after in
+    let there : flows_steps old to sign e ≡ following_steps (engine_of old) (followers mid.arrays.world old.flows v) (size_of (dims_in mid.arrays.world v)) after =
+    ap (λ (x : Valued). following_steps (engine_of old) (followers_of old.flows x) (value_size x) (arrays_assigned old to sign e)) aimed
+    ∙ ap (following_steps (engine_of old) (followers mid.arrays.world old.flows v) (size_of (dims_in mid.arrays.world v))) (sides_assigned old mid late to sign e v u aimed g.names valued) in
+    omega (arith, here, less, there)

@@ -11,6 +11,7 @@ use Rattle.pdl_world.specs.Paths.{root_of}
 use Rattle.pdl_world.specs.World.{Look, dims_in, root}
 use Rattle.pdl_engine.specs.Reading.{read_steps}
 use Rattle.pdl_engine.specs.State.{State as Engine, ready_steps}
+use Rattle.pdl_lexemes.specs.declared.AssignOp.{AssignOp}
 use Rattle.pdl_syntax.specs.declared.tree.ViewCall.{ViewCall}
 use Rattle.pdl_syntax.specs.StatementTree.{View, view_of}
 use Rattle.pdl_syntax.specs.Tree.{Tree, Args, call, named, none, value, text, of_type}
@@ -36,7 +37,7 @@ use Rattle.pdl_session.specs.Arguments.{arguments}
 use Rattle.pdl_session.specs.declared.given.Given.{Given}
 use Rattle.pdl_session.specs.Costs.{EvaluatesWithin, argued_steps, named_steps, read_all, ready_all}
 use Rattle.pdl_session.specs.Came.{args_evaluated, args_left, came, evaluated, left_then, list_came, parts_left, sides_evaluated, sizes_came, sizes_taken, unbound, unbound_by}
-use Rattle.pdl_session.specs.Moves.{assign_steps, cut_steps, reshape_steps, value_size, wanted_size}
+use Rattle.pdl_session.specs.Moves.{assign_steps, cut_steps, flows_steps, reshape_steps, value_size, wanted_size}
 use Rattle.pdl_session.proofs.Needs.{live_behind}
 use Rattle.pdl_session.proofs.Grown.{grown_seen}
 use Rattle.pdl_session.proofs.Expressions.{read_all_le, read_le_ready}
@@ -310,27 +311,27 @@ unflowed_has flows (Ok v) left next more = by_flow (is_flow flows (root_of v.0.w
     by_flow true = omega arith
     by_flow false = more v.0
 
-pub target_left : (old : Scope) (place e : Tree) (before after : ℕ) → MovesUpTo (named_steps old place) old (evaluated old.names old.arrays place) before after
-    → MovesUpTo (assign_steps old place e) old (sides_evaluated old place e) before after
-target_left old place e before after h =
+pub target_left : (old : Scope) (place : Tree) (sign : AssignOp) (e : Tree) (before after : ℕ) → MovesUpTo (named_steps old place) old (evaluated old.names old.arrays place) before after
+    → MovesUpTo (assign_steps old place sign e) old (sides_evaluated old place e) before after
+target_left old place sign e before after h =
     let has : size_in (evaluated old.names old.arrays place) ≤ size_in (sides_evaluated old place e) = unflowed_has old.flows (value_of old.names old.arrays place) (parts_left old.names old.arrays place) (λ b. evaluated old.names b e) (λ b. starts_within old.names b e) in
     omega (arith, h, has)
 
 -- a value that is refused
-pub value_left : (old mid : Scope) (place e : Tree) (before now after v : ℕ) → target_in (machine old) place ≡ Ok (mid.arrays, v) → mid.names ≡ old.names → EvaluatesWithin (named_steps old place) old mid mid.arrays before now (Ok v)
-    → named_steps mid e ≤ named_steps old e → MovesUpTo (named_steps mid e) mid (evaluated mid.names mid.arrays e) now after → MovesUpTo (assign_steps old place e) old (sides_evaluated old place e) before after
-value_left old mid place e before now after v aimed same first fewer second =
+pub value_left : (old mid : Scope) (place : Tree) (sign : AssignOp) (e : Tree) (before now after v : ℕ) → target_in (machine old) place ≡ Ok (mid.arrays, v) → mid.names ≡ old.names → EvaluatesWithin (named_steps old place) old mid mid.arrays before now (Ok v)
+    → named_steps mid e ≤ named_steps old e → MovesUpTo (named_steps mid e) mid (evaluated mid.names mid.arrays e) now after → MovesUpTo (assign_steps old place sign e) old (sides_evaluated old place e) before after
+value_left old mid place sign e before now after v aimed same first fewer second =
     let size : size_in (sides_evaluated old place e) ≡ size_in (evaluated mid.names mid.arrays e) = ap size_in (after_target old mid place e v aimed same) in
     omega (arith, first, fewer, second, size)
 
 -- both sides came
-pub assigned_within : OlderStay → (old mid late : Scope) (place e : Tree) (before now later after v u : ℕ) → IsWhole (machine old) → IsWhole (machine late)
+pub assigned_within : OlderStay → (old mid late : Scope) (place : Tree) (sign : AssignOp) (e : Tree) (before now later after v u followed : ℕ) → IsWhole (machine old) → IsWhole (machine late)
     → target_in (machine old) place ≡ Ok (mid.arrays, v) → IsLive mid.arrays.world v → value_of mid.names mid.arrays e ≡ Ok (late.arrays, u) → Grows old mid → Grows mid late → Grows old late
     → CostsNoMore (engine_of mid) (engine_of late) → CostsNoMore (engine_of old) (engine_of late)
     → EvaluatesWithin (named_steps old place) old mid mid.arrays before now (Ok v) → named_steps mid e ≤ named_steps old e → EvaluatesWithin (named_steps mid e) mid late late.arrays now later (Ok u)
-    → after ≤ later + (read_steps (engine_of late) v + read_steps (engine_of late) u) + sum_by (read_steps (engine_of late)) (attached late.watches) + size_of (dims_in late.arrays.world v)
-    → MovesUpTo (assign_steps old place e) old (sides_evaluated old place e) before after
-assigned_within older old mid late place e before now later after v u whole whole_late aimed live valued g h all next costs first fewer second counted =
+    → after ≤ later + (read_steps (engine_of late) v + read_steps (engine_of late) u) + sum_by (read_steps (engine_of late)) (attached late.watches) + size_of (dims_in late.arrays.world v) + followed
+    → followed ≤ flows_steps old place sign e → MovesUpTo (assign_steps old place sign e) old (sides_evaluated old place e) before after
+assigned_within older old mid late place sign e before now later after v u followed whole whole_late aimed live valued g h all next costs first fewer second counted flows =
     let is : sides_evaluated old place e ≡ late.arrays = after_target old mid place e v aimed g.names ∙ ap (λ (z : Valued). came z (parts_left mid.names mid.arrays e)) valued in
     let sizes : size_of (dims_in late.arrays.world v) ≡ size_of (dims_in mid.arrays.world v) = ap (λ o. size_of (option_map_or (λ (l : Look). l.dims) o [])) (grown_seen older mid.arrays late.arrays v (as_grown mid late h) whole_late.sound live) in
     let size : value_size (target_in (machine old) place) ≡ size_of (dims_in mid.arrays.world v) = ap value_size aimed in
@@ -338,4 +339,4 @@ assigned_within older old mid late place e before now later after v u whole whol
     let a = next.readies v live in
     let b = read_le_ready (engine_of late) v in
     let d = read_le_ready (engine_of late) u in
-    subst (λ (z : Arrays). MovesUpTo (assign_steps old place e) old z before after) (sym is) (omega (arith, first, fewer, second, counted, sizes, size, watched, a, b, d))
+    subst (λ (z : Arrays). MovesUpTo (assign_steps old place sign e) old z before after) (sym is) (omega (arith, first, fewer, second, counted, sizes, size, watched, a, b, d, flows))

@@ -15,12 +15,11 @@ use Rattle.pdl_scope.specs.Scope.{Scope, engine_of, machine}
 use Rattle.pdl_scope.specs.declared.fault.ScopeFault.{ScopeFault}
 use Rattle.pdl_session.specs.Came.{evaluated, flow_came, list_came, sides_evaluated, sizes_came, sizes_taken}
 use Rattle.pdl_session.specs.Costs.{argued_steps, named_steps}
-use Rattle.pdl_session.specs.Evaluations.{followers_in}
 use Rattle.pdl_session.specs.Moves.{assign_steps, cut_steps, reshape_steps, value_size}
 
--- A binding, a flow and a print move what their expression takes; an assignment that no flow
--- follows, a cut and other dimensions what they do besides; a dump reads each root, unless it is
--- refused before. No other statement takes a step. Where a fault refuses a statement, the arrays count
+-- A binding, a flow and a print move what their expression takes; an assignment, a cut and other
+-- dimensions what they do besides, an assignment with the flows that follow it; a dump reads each
+-- root, unless it is refused before. No other statement takes a step. Where a fault refuses a statement, the arrays count
 -- that came until then, and where memory ran out those that were to come.
 abbrev pub MovesByForm : StatementTree → (old : Scope) → (before after : ℕ) → Type 0
 MovesByForm (bind x e false) old before after =
@@ -31,8 +30,7 @@ MovesByForm (bind x e true) old before after =
 MovesByForm (bind_list xs e) old before after =
     MovesUpTo (named_steps old e) old (list_came old xs e) before after
 MovesByForm (assign x views sign e) old before after =
-    followers_in old (target x views) ≡ []
-    → MovesUpTo (assign_steps old (target x views) e) old
+    MovesUpTo (assign_steps old (target x views) sign e) old
     (sides_evaluated old (target x views) e) before after
 MovesByForm (show e info) old before after =
     MovesUpTo (named_steps old e) old (evaluated old.names old.arrays e) before after

@@ -1,17 +1,19 @@
 -- A script of late writes, and what each of its statements moves at most, worked by hand.
-use Rattle.std.specs.Prelude.{◌≡◌, ℕ, ◌+◌, ◌<◌, ◌≤◌, pos, false, List, [], ◌∷◌, get_or, codes}
+use Rattle.std.specs.Prelude.{◌≡◌, ℕ, ◌+◌, ◌<◌, ◌≤◌, pos, false, List, [], ◌∷◌, get_or, map, codes, Ok}
 use Rattle.pdl_engine.specs.State.{IsLazy}
-use Rattle.pdl_elem.specs.declared.BinaryOp.TheVariants.{Add}
+use Rattle.pdl_elem.specs.declared.BinaryOp.TheVariants.{Add, Mul}
 use Rattle.pdl_lexemes.specs.declared.AssignOp.TheVariants.{Set}
-use Rattle.pdl_syntax.specs.StatementTree.{StatementTree, assign, bind, show, vars}
+use Rattle.pdl_syntax.specs.StatementTree.{StatementTree, assign, bind, flow, show, vars}
 use Rattle.pdl_syntax.specs.Tree.{Tree, binary, named, number}
-use Rattle.pdl_machine.specs.State.{no_names}
-use Rattle.pdl_machine.specs.Worked.{sequence_to}
+use Rattle.pdl_machine.specs.State.{State, no_names}
+use Rattle.pdl_machine.specs.Then.{and_then}
+use Rattle.pdl_machine.specs.Worked.{after_all, sequence_to}
 use Rattle.pdl_machine.specs.WorkedCuts.{called, pdl, whole_numbers}
 use Rattle.pdl_scope.specs.Costs.{total_size}
-use Rattle.pdl_scope.specs.Scope.{engine_of}
+use Rattle.pdl_scope.specs.Scope.{Scope, engine_of}
 use Rattle.pdl_session.specs.Came.{evaluated}
 use Rattle.pdl_session.specs.Bounds.{LeavesReadable, RunsInPlace, warm_after}
+use Rattle.pdl_session.specs.Moves.{flows_steps}
 use Rattle.pdl_session.specs.Session.{AssignsAgain, IsAtRest, PrintsAtMost, Session, no_steps}
 
 -- One session follows another by a statement that ran without watchers, as the clauses of `step`
@@ -66,3 +68,29 @@ abbrev pub RefusedSumsMoveWhatCame : Type 0
 RefusedSumsMoveWhatCame =
     (moved_until (binary Add (sequence_to 10) no_call) ≡ 11)
     × (moved_until (binary Add no_call (sequence_to 10)) ≡ 1)
+
+-- a scope of these arrays that waits for nothing: each array can be lent
+abbrev pub lent_wholly : State → Scope
+lent_wholly s = record {
+  names = s.names;
+  arrays = s.arrays;
+  watches = s.watches;
+  flows = s.flows;
+  lent = record { fresh = map (λ x. x.0) s.arrays.world; pending = []; holds = [] };
+}
+
+-- $x = sequence(2); flow $y = $x + 1; flow $z = $y * $y;
+abbrev pub chained_flows : List StatementTree
+chained_flows =
+    bind (codes "x") (sequence_to 2) false
+    ∷ flow (codes "y") (binary Add (named (codes "x")) (number (pos 1)))
+    ∷ flow (codes "z") (binary Mul (named (codes "y")) (named (codes "y"))) ∷ []
+
+-- Then flows take at most 15 steps where $x .= 4; is assigned: two to keep its values; for $y two to
+-- bring in $x, one for the number 1, and twice two for what it gets; and for $z two to bring in $y,
+-- once, and twice two. Where $z .= 4; is refused they take none.
+pub record ChainedFlowsMoveLittle : Type 0 where
+  pub followed : and_then (after_all chained_flows) (λ s.
+      Ok (flows_steps (lent_wholly s) (named (codes "x")) Set (number (pos 4)))) ≡ Ok 15
+  pub refused : and_then (after_all chained_flows) (λ s.
+      Ok (flows_steps (lent_wholly s) (named (codes "z")) Set (number (pos 4)))) ≡ Ok 0

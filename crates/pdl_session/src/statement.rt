@@ -20,7 +20,7 @@ ghost use Rattle.pdl_scope.specs.Scope.{engine_of, machine, slots_limit};
 ghost use Rattle.pdl_session.specs.News.{IsNewsOf};
 ghost use Rattle.pdl_session.specs.declared.news.News.TheVariants.{Nothing};
 ghost use Rattle.pdl_session.specs.Bounds.{LeavesReadable, MovesPlainly, warm_after};
-ghost use Rattle.pdl_session.specs.Evaluations.{RunsAtMost, followers_in};
+ghost use Rattle.pdl_session.specs.Evaluations.{RunsAtMost};
 ghost use Rattle.pdl_session.specs.Performed.{Performs};
 ghost use Rattle.pdl_session.specs.Statements.{MovesByForm};
 ghost use Rattle.pdl_session.specs.Arguments.{arguments, AreGivenLive};
@@ -158,9 +158,9 @@ fn bind_list<L: Ledger>(
 
 /// Assigns by a sign: the target's array comes first, then the value's, and then flows follow. The
 /// answer is what watchers are to be told, by slots. At most one formula is evaluated for each flow
-/// that reads, directly or through flows, an array of the target's root. Where none does, the
-/// assignment takes, beside what both expressions take, at most what it takes to read each array
-/// that a slot is attached to, and a step for each element of the target.
+/// that reads, directly or through flows, an array of the target's root. The assignment takes, beside
+/// what both expressions take, at most what it takes to read each array that a slot is attached to, a
+/// step for each element of the target, and what the flows take that follow.
 fn assign_value<L: Ledger, M: Ledger>(
     scope: &mut Scope,
     to: &Target,
@@ -176,9 +176,8 @@ fn assign_value<L: Ledger, M: Ledger>(
         let wanted = assigning (machine scope.old) place sign (tree_of value.now) in
         Runs wanted scope.old scope.new [] [] result }
     ensures within { let place = target to.now.name (map view_of to.now.views.items) in
-        let most = assign_steps scope.old place (tree_of value.now) in
+        let most = assign_steps scope.old place sign (tree_of value.now) in
         let late = sides_evaluated scope.old place (tree_of value.now) in
-        followers_in scope.old place ≡ [] →
         MovesUpTo most scope.old late steps.old steps.new }
     ensures flowing { let place = map view_of to.now.views.items in
         let statement = assign to.now.name place sign (tree_of value.now) in

@@ -105,7 +105,9 @@ fn added(
     requires { length value.now.elems ≡ 3 }
 {
     let further = whole(rt, alloc, value, &[3, 1, 1]);
-    values_for(alloc, AssignOp::With(BinaryOp::Add), row, &further)
+    let sign = AssignOp::With(BinaryOp::Add);
+    let values = values_for(alloc, sign, row, &further, Keeping::Packed)?;
+    Ok(values.into_vec(alloc)?)
 }
 
 // Three shorts are added to three bytes.

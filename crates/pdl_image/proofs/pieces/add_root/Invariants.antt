@@ -10,4 +10,4 @@ use Rattle.pdl_image.proofs.pieces.add_root.Given as goal
 abbrev pub invariant-loop-k : goal.invariant-loop-k
 invariant-loop-k l =
     Adds l.fn.draft l.draft
-    (root_line l.name l.elems.ty l.elems.dims ∷ flat_map (piece_lines l.name l.elems.elems) (range_with_len 0 l.k)) (Ok tt)
+    (root_line l.name l.fn.ty l.dims ∷ flat_map (piece_lines l.name l.numbers) (range_with_len 0 l.k)) (Ok tt)

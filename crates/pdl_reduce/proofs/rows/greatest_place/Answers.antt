@@ -1,14 +1,18 @@
--- A place is a long.
-use Rattle.std.proofs.Common.{◌≤◌, FitsSigned, arith, sym, subst, ◌∙◌}
+-- The fold starts at the first element, and picks the greatest.
+use Rattle.std.proofs.Common.{◌<◌, ℤ, pos, List, take, drop, length, get_or, arith, refl, ap, ◌∙◌}
 use Rattle.std.proofs.lemmas.Int.{to_z-of_z}
+use Rattle.std.proofs.lemmas.List.{length-take-le, length-drop}
 use Rattle.std.specs.Int.{w64}
-use Rattle.pdl_elem.specs.declared.Ty.TheVariants.{Long}
-use Rattle.pdl_elem.specs.Types.{InRange}
-use Rattle.pdl_reduce.proofs.Numbers.{place_in}
+use Rattle.pdl_reduce.specs.Folds.{first_place}
+use Rattle.pdl_reduce.proofs.Extremes.{greatest_picks}
+use Rattle.pdl_reduce.proofs.Numbers.{greatest_is}
 use Rattle.pdl_reduce.proofs.rows.greatest_place.Goals as goal
 
-pub returns-clause-in_range : goal.returns-clause-in_range
-returns-clause-in_range c =
-    let small : c.find_in_window.result ≤ 1048576 = omega (arith, c.find_in_window.ensures.bound) in
-    let fits : FitsSigned w64 c.from.result = record { sfits = c.from.type_inv } in
-    subst (InRange Long) (sym (to_z-of_z w64 c.from.result fits ∙ c.from.ensures)) (place_in c.find_in_window.result small)
+pub picked_place-requires-clause-picks : goal.picked_place-requires-clause-picks
+picked_place-requires-clause-picks c = greatest_picks
+
+pub returns-clause-value : goal.returns-clause-value
+returns-clause-value c =
+    let xs : List ℤ = take c.args.count (drop c.args.first c.args.a.now.elems) in
+    let some : 0 < length xs = omega (arith, length-take-le c.args.count (drop c.args.first c.args.a.now.elems) (omega (arith, length-drop c.args.first c.args.a.now.elems))) in
+    to_z-of_z w64 c.picked_place.result (record { sfits = c.picked_place.type_inv }) ∙ c.picked_place.ensures.value ∙ ap (λ (z : ℤ). pos (first_place z xs)) (greatest_is xs (get_or xs 0 (pos 0)) some refl)

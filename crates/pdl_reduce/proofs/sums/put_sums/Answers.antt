@@ -9,6 +9,9 @@ use Rattle.pdl_reduce.proofs.Matrix.{range_more}
 use Rattle.pdl_reduce.proofs.ShortRows.{sum_is}
 use Rattle.pdl_reduce.proofs.sums.put_sums.Goals as goal
 
+pub places_left-few-requires-clause-most : goal.places_left-few-requires-clause-most
+places_left-few-requires-clause-most c = omega (arith, c.min.ensures, c.places_at_once-most.ensures.some (omega (arith, c.loop-done-test.true)), c.loop-done-test.true)
+
 pub places_left-few-requires-clause-rows : goal.places_left-few-requires-clause-rows
 places_left-few-requires-clause-rows c = c.requires.right_turn.some_rows (omega (arith, c.elements_of-total.ensures.count, c.loop-done-test.true))
 

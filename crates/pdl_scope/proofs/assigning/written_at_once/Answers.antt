@@ -11,5 +11,5 @@ lent_is false w x e = absurd (cc)
 
 pub returns-in-Ok-clause-made : goal.returns-in-Ok-clause-made
 returns-in-Ok-clause-made c =
-    subst (λ (w : Window). IsMade w.ty w.dims c.in-Ok.values.items)
+    subst (λ (w : Window). IsMade w.ty w.dims c.in-Ok.values)
     (lent_is (is_fresh c.args.engine.now c.args.target) c.in_ok-into.into (shown_in c.args.engine.now c.args.target) c.in_ok-into.ensures) c.in-Ok.ensures.made

@@ -1,20 +1,22 @@
-use Rattle.std.proofs.Common.{◌≡◌, ◌+◌, ◌<◌, ◌∷◌, ℕ, List, drop, length, take}
-use Rattle.std.specs.Prelude.{sum_by}
-use Rattle.pdl_world.specs.Paths.{root_of}
-use Rattle.pdl_engine.specs.Reading.{IsWarm}
-use Rattle.pdl_scope.specs.Plans.{AllCanAssign, AreApart, all_assigned}
+-- Those that are left can be made, and with them all are.
+use Rattle.std.proofs.Common.{◌≡◌, ◌+◌, ◌≤◌, ◌∷◌, ◌⊎◌, List, length, reverse}
+use Rattle.pdl_world.specs.Sound.{IsSound}
+use Rattle.pdl_scope.specs.Plans.{AllCanAssign, AreApart, all_assigned, values_in}
 use Rattle.pdl_scope.specs.declared.following.Change.{Change}
+use Rattle.pdl_scope.proofs.Planned.{IsMadeFirst}
 use Rattle.pdl_scope.proofs.following.assign_all.Given as goal
 
--- the assignments before this one are made, and the others can be
 abbrev pub invariant-loop-change : goal.invariant-loop-change
 invariant-loop-change g l = record {
-  world : all_assigned l.engine.world (drop l.change-index l.plan) ≡ all_assigned l.fn.engine.world l.plan;
-  can : AllCanAssign l.engine (drop l.change-index l.plan);
-  apart : AreApart l.engine.world (drop l.change-index l.plan);
-  roots : (v : ℕ) → root_of l.engine.world v ≡ root_of l.fn.engine.world v;
+  world : all_assigned l.engine.world (reverse l.plan.items) ≡ all_assigned l.fn.engine.world l.fn.plan.items;
+  can : AllCanAssign l.engine (reverse l.plan.items);
+  apart : AreApart l.engine.world (reverse l.plan.items);
+  sound : IsSound l.engine.world;
   holds : l.engine.holds ≡ l.fn.engine.holds;
   next : l.engine.next ≡ l.fn.engine.next;
-  warm : (c : Change) → (cs : List Change) → l.plan ≡ c ∷ cs → 0 < l.change-index → IsWarm l.engine c.target;
-  counted : l.steps ≡ l.fn.steps + sum_by (λ c. length c.values.items) (take l.change-index l.plan);
+  first : (c : Change) (cs : List Change) → l.fn.plan.items ≡ c ∷ cs → IsMadeFirst l.engine c (reverse l.plan.items) ⊎ (reverse l.plan.items ≡ c ∷ cs);
+  counted : l.steps + values_in (reverse l.plan.items) ≤ l.fn.steps + values_in l.fn.plan.items;
 }
+
+abbrev pub decreases-loop-change : goal.decreases-loop-change
+decreases-loop-change g l = length l.plan.items

@@ -1,21 +1,22 @@
-use Rattle.std.proofs.Common.{◌≡◌, ℕ, ℤ, List, map, Option, None, Result, Ok, refl, sym, ap, subst, ◌∙◌}
-use Rattle.std.specs.Prelude.{IfOk}
-use Rattle.std.proofs.lemmas.Result.{IfOk-weaker}
-use Rattle.pdl_buf.specs.Made.{IsMade}
-use Rattle.pdl_buf.specs.declared.made.Made.{Made}
+use Rattle.std.proofs.Common.{◌≡◌, ◌+◌, ◌≤◌, [], arith, ℕ, ℤ, List, map, Option, None, Result, Ok, refl, sym, ap, subst, ◌∙◌}
 use Rattle.pdl_ops.specs.Answers.{refusal_named}
-use Rattle.pdl_flow.specs.Formula.{arrays_in, tree_of}
+use Rattle.std.specs.Prelude.{sum_by}
+use Rattle.pdl_flow.specs.Formula.{FormulaTree, arrays_in, tree_of}
+use Rattle.pdl_flow.specs.Steps.{steps_in}
 use Rattle.pdl_flow.specs.Inputs.{AreInputs, value_in}
 use Rattle.pdl_flow.specs.Meaning.{meaning}
-use Rattle.pdl_flow.specs.declared.formula.Input.{Input}
+use Rattle.pdl_flow.specs.Inputs.{Given}
 use Rattle.pdl_world.specs.Sound.{IsSound}
 use Rattle.pdl_world.specs.World.{World, assign, dims_in, ty_in}
 use Rattle.pdl_machine.specs.Arrays.{Arrays, array_in}
 use Rattle.pdl_machine.specs.Following.{follow}
 use Rattle.pdl_machine.specs.State.{AreLive}
+use Rattle.pdl_scope.specs.FlowCosts.{input_steps, once}
 use Rattle.pdl_scope.specs.Plans.{all_assigned, planned}
 use Rattle.pdl_scope.specs.Scope.{arrays_of}
+use Rattle.pdl_scope.proofs.FlowCosts.{found_within}
 use Rattle.pdl_scope.proofs.Followers.{IsFormed, ShowAll, are_inputs, follows_by, formed, inputs_show, made_at, of_inputs, older_live, unrefused}
+use Rattle.pdl_scope.proofs.Foreseen.{rested}
 use Rattle.pdl_scope.proofs.Growing.{still_live}
 use Rattle.pdl_scope.proofs.Planned.{sound_after}
 use Rattle.pdl_scope.proofs.Plans.{live_after, looks_after}
@@ -47,8 +48,7 @@ returns-in-Ok-clause-follows g c =
     let is : ShowAll b c.deref.result.now (arrays_in f.formula) = inputs_show b c.in_ok-inputs.inputs.items c.deref.result.now c.reads.result.now (arrays_in f.formula) c.deref.ensures.value c.reads.ensures c.in_ok-inputs.ensures.inputs in
     let value : meaning (array_in b) f.formula ≡ Ok c.in-Ok.made =
     sym (of_inputs c.meaning_laws.ensures b f c.deref.result.now is) ∙ ap (meaning (value_in c.deref.result.now)) (sym c.formula.ensures) ∙ c.in-Ok.ensures.value in
-    IfOk-weaker c.into_vec.result (λ es. es.items ≡ c.in-Ok.made.elems) (λ es. follow b f ≡ record b { world = assign b.world f.root es.items })
-    (λ es same. follows_by b f c.in-Ok.made es.items value same) c.into_vec.ensures
+    follows_by b f c.in-Ok.made c.in-Ok.made.elems value refl
 
 pub returns-in-Ok-clause-made : goal.returns-in-Ok-clause-made
 returns-in-Ok-clause-made g c =
@@ -59,8 +59,7 @@ returns-in-Ok-clause-made g c =
     let value : meaning (array_in b) f.formula ≡ Ok c.in-Ok.made =
     sym (of_inputs c.meaning_laws.ensures b f c.deref.result.now is) ∙ ap (meaning (value_in c.deref.result.now)) (sym c.formula.ensures) ∙ c.in-Ok.ensures.value in
     let form : IsFormed a b f (meaning (array_in b) f.formula) = formed c.meaning_laws.ensures a b f c.requires.flow (looks_after c.assignment_laws.ensures.looks a.world c.args.plan.now) in
-    IfOk-weaker c.into_vec.result (λ es. es.items ≡ c.in-Ok.made.elems) (λ es. IsMade (ty_in a.world f.root) (dims_in a.world f.root) es.items)
-    (λ es same. made_at a b f c.in-Ok.made es.items form value c.in-Ok.ensures.made same) c.into_vec.ensures
+    made_at a b f c.in-Ok.made c.in-Ok.made.elems form value c.in-Ok.ensures.made refl
 
 pub out_of_memory-requires : goal.out_of_memory-requires
 out_of_memory-requires g c =
@@ -71,3 +70,36 @@ out_of_memory-requires g c =
     let form : IsFormed a b f (meaning (array_in b) f.formula) = formed c.meaning_laws.ensures a b f c.requires.flow (looks_after c.assignment_laws.ensures.looks a.world c.args.plan.now) in
     unrefused (meaning (value_in c.deref.result.now) (tree_of c.formula.result.now)) form.made (refusal_named c.in-Err.fault)
     (ap (meaning (value_in c.deref.result.now)) c.formula.ensures ∙ of_inputs c.meaning_laws.ensures b f c.deref.result.now is ∙ form.is) c.in-Err.ensures.value
+
+pub returns-in-Ok-clause-counted : goal.returns-in-Ok-clause-counted
+returns-in-Ok-clause-counted g c =
+    let e = c.args.engine.now in
+    let b : Arrays = planned (arrays_of e) c.args.plan.now in
+    let f = c.args.flow.now in
+    let inputs = c.deref.result.now in
+    let is : ShowAll b inputs (arrays_in f.formula) = inputs_show b c.in_ok-inputs.inputs.items inputs c.reads.result.now (arrays_in f.formula) c.deref.ensures.value c.reads.ensures c.in_ok-inputs.ensures.inputs in
+    let read = subst (λ (ks : List ℕ). c.inputs_planned.new.steps ≤ c.args.steps.now + sum_by (input_steps e b) (once [] ks)) c.reads.ensures c.inputs_planned.ensures.counted in
+    let moved = subst (λ (x : FormulaTree). c.evaluate.new.steps ≤ c.inputs_planned.new.steps + steps_in (value_in inputs) x) c.formula.ensures c.evaluate.ensures.at_most in
+    found_within c.meaning_laws.ensures e b f inputs c.args.steps.now c.inputs_planned.new.steps c.evaluate.new.steps is read moved
+
+pub returns-clause-counted : goal.returns-clause-counted
+returns-clause-counted g c =
+    let e = c.args.engine.now in
+    let b : Arrays = planned (arrays_of e) c.args.plan.now in
+    let f = c.args.flow.now in
+    let inputs = c.deref.result.now in
+    let is : ShowAll b inputs (arrays_in f.formula) = inputs_show b c.in_ok-inputs.inputs.items inputs c.reads.result.now (arrays_in f.formula) c.deref.ensures.value c.reads.ensures c.in_ok-inputs.ensures.inputs in
+    let read = subst (λ (ks : List ℕ). c.inputs_planned.new.steps ≤ c.args.steps.now + sum_by (input_steps e b) (once [] ks)) c.reads.ensures c.inputs_planned.ensures.counted in
+    let moved = subst (λ (x : FormulaTree). c.evaluate.new.steps ≤ c.inputs_planned.new.steps + steps_in (value_in inputs) x) c.formula.ensures c.evaluate.ensures.at_most in
+    found_within c.meaning_laws.ensures e b f inputs c.args.steps.now c.inputs_planned.new.steps c.evaluate.new.steps is read moved
+
+pub returns-in_err-inputs-clause-counted : goal.returns-in_err-inputs-clause-counted
+returns-in_err-inputs-clause-counted g c =
+    let e = c.args.engine.now in
+    let b : Arrays = planned (arrays_of e) c.args.plan.now in
+    let read = subst (λ (ks : List ℕ). c.inputs_planned.new.steps ≤ c.args.steps.now + sum_by (input_steps e b) (once [] ks)) c.reads.ensures c.inputs_planned.ensures.counted in
+    omega (arith, read)
+
+pub returns-in-Ok-clause-costs : goal.returns-in-Ok-clause-costs
+returns-in-Ok-clause-costs g c =
+    (rested c.args.engine.now c.inputs_planned.new.engine c.resting_law.ensures c.resting_law-2.ensures c.inputs_planned.ensures.same c.inputs_planned.ensures.stay).reads

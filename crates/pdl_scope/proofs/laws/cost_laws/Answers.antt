@@ -1,10 +1,14 @@
 use Rattle.pdl_scope.proofs.Dearer.{growing}
+use Rattle.pdl_scope.proofs.FlowCosts.{growing_flows}
 use Rattle.pdl_scope.proofs.Newest.{none_lost, roots_are_ready, roots_move, views_add, views_cost}
 use Rattle.pdl_scope.proofs.Waited.{unwritten}
 use Rattle.pdl_scope.proofs.laws.cost_laws.Goals as goal
 
 pub returns-clause-older : goal.returns-clause-older
 returns-clause-older c = growing
+
+pub returns-clause-flows : goal.returns-clause-flows
+returns-clause-flows c = growing_flows
 
 pub returns-clause-roots : goal.returns-clause-roots
 returns-clause-roots c = roots_are_ready

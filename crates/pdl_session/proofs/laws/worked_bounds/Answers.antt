@@ -7,3 +7,6 @@ returns-clause-late c = late_writes_move_little
 
 pub returns-clause-refused : goal.returns-clause-refused
 returns-clause-refused c = (refl, refl)
+
+pub returns-clause-flows : goal.returns-clause-flows
+returns-clause-flows c = record { followed = refl; refused = refl }

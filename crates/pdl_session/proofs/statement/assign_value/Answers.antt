@@ -1,10 +1,14 @@
 use Rattle.std.proofs.Common.{◌+◌, ◌≤◌, length, subst, ◌∙◌}
 use Rattle.std.specs.Prelude.{map}
-use Rattle.pdl_machine.specs.Flows.{Flows}
+use Rattle.pdl_shape.specs.Shape.{size_of}
+use Rattle.pdl_world.specs.World.{dims_in}
+use Rattle.pdl_machine.specs.Flows.{Flows, followers}
+use Rattle.pdl_scope.specs.FlowCosts.{following_steps}
+use Rattle.pdl_scope.specs.Scope.{engine_of}
 use Rattle.pdl_syntax.specs.TreeOf.{tree_of}
 use Rattle.pdl_syntax.specs.StatementTree.{view_of}
 use Rattle.pdl_machine.specs.Step.{target, assigned}
-use Rattle.pdl_session.proofs.Affected.{assigned_affected, late_unflowed}
+use Rattle.pdl_session.proofs.Affected.{assigned_affected, flows_within, late_unflowed}
 use Rattle.pdl_session.proofs.Bounded.{no_views_of, target_refused, value_refused, assigned_plainly, assigned_readable}
 use Rattle.pdl_session.proofs.Facts.{ends_at, grows_trans}
 use Rattle.pdl_session.proofs.Assigning.{assigned_told}
@@ -54,21 +58,21 @@ returns-clause-readable g c =
     (λ none. c.in_ok-to.ensures.bare (no_views_of c.args.to.now.views.items none)) c.assign.ensures.warm
 
 pub returns-in_err-to-clause-within : goal.returns-in_err-to-clause-within
-returns-in_err-to-clause-within g c = λ none.
-    target_left c.args.scope.now (target c.args.to.now.name (map view_of c.args.to.now.views.items)) (tree_of c.args.value.now) c.args.steps.now c.assigned_to.new.steps c.in_err-to.ensures.within
+returns-in_err-to-clause-within g c =
+    target_left c.args.scope.now (target c.args.to.now.name (map view_of c.args.to.now.views.items)) c.args.sign (tree_of c.args.value.now) c.args.steps.now c.assigned_to.new.steps c.in_err-to.ensures.within
 
 pub returns-in_err-from-clause-within : goal.returns-in_err-from-clause-within
-returns-in_err-from-clause-within g c = λ none.
+returns-in_err-from-clause-within g c =
     let s = c.args.scope.now in
     let mid = c.assigned_to.new.scope in
     let tree = tree_of c.args.value.now in
     let costs = c.cost_laws.ensures.older s mid c.in_order.ensures c.in_order-2.ensures c.assigned_to.ensures.grown in
-    value_left s mid (target c.args.to.now.name (map view_of c.args.to.now.views.items)) tree c.args.steps.now c.assigned_to.new.steps c.eval.new.steps c.in_ok-to.to
+    value_left s mid (target c.args.to.now.name (map view_of c.args.to.now.views.items)) c.args.sign tree c.args.steps.now c.assigned_to.new.steps c.eval.new.steps c.in_ok-to.to
     c.in_ok-to.ensures.value.0 c.assigned_to.ensures.grown.names c.in_ok-to.ensures.within (names_less s mid c.assigned_to.ensures.grown.names (names_live s c.in_order.ensures.whole) costs tree)
     c.in_err-from.ensures.within
 
 pub returns-clause-within : goal.returns-clause-within
-returns-clause-within g c = λ none.
+returns-clause-within g c =
     let s = c.args.scope.now in
     let to = target c.args.to.now.name (map view_of c.args.to.now.views.items) in
     let mid = c.assigned_to.new.scope in
@@ -78,9 +82,13 @@ returns-clause-within g c = λ none.
     let first = c.cost_laws.ensures.older s mid c.in_order.ensures c.in_order-2.ensures c.assigned_to.ensures.grown in
     let next = c.cost_laws.ensures.older mid late c.in_order-2.ensures c.in_order-3.ensures c.eval.ensures.grown in
     let both = c.cost_laws.ensures.older s late c.in_order.ensures c.in_order-3.ensures all in
-    assigned_within c.growth_laws.ensures.older s mid late (target c.args.to.now.name (map view_of c.args.to.now.views.items)) tree c.args.steps.now c.assigned_to.new.steps c.eval.new.steps c.assign.new.steps c.in_ok-to.to c.in_ok-from.from
+    let v = c.in_ok-to.to in
+    let u = c.in_ok-from.from in
+    let flows = flows_within c.cost_laws.ensures.flows c.growth_laws.ensures.older s mid late to c.args.sign tree v u c.in_order.ensures c.in_order-2.ensures c.in_order-3.ensures c.in_ok-to.ensures.value.0 c.in_ok-to.ensures.value.1 c.in_ok-from.ensures.value.0 c.assigned_to.ensures.grown c.eval.ensures.grown all in
+    assigned_within c.growth_laws.ensures.older s mid late to c.args.sign tree c.args.steps.now c.assigned_to.new.steps c.eval.new.steps c.assign.new.steps v u
+    (following_steps (engine_of late) (followers late.arrays.world late.flows v) (size_of (dims_in late.arrays.world v)) (assigned c.args.sign late.arrays v u))
     c.in_order.ensures.whole c.in_order-3.ensures.whole c.in_ok-to.ensures.value.0 c.in_ok-to.ensures.value.1 c.in_ok-from.ensures.value.0 c.assigned_to.ensures.grown c.eval.ensures.grown all next both
-    c.in_ok-to.ensures.within (names_less s mid c.assigned_to.ensures.grown.names (names_live s c.in_order.ensures.whole) first tree) c.in_ok-from.ensures.within (c.assign.ensures.counted (assigned_affected c.growth_laws.ensures.older s mid late to c.in_ok-to.to c.in_ok-to.ensures.value.0 c.in_ok-to.ensures.value.1 c.assigned_to.ensures.grown c.eval.ensures.grown c.in_order-2.ensures.whole c.in_order-3.ensures.whole ∙ none))
+    c.in_ok-to.ensures.within (names_less s mid c.assigned_to.ensures.grown.names (names_live s c.in_order.ensures.whole) first tree) c.in_ok-from.ensures.within c.assign.ensures.counted flows
 
 pub assign-requires-clause-unflowed : goal.assign-requires-clause-unflowed
 assign-requires-clause-unflowed g c =

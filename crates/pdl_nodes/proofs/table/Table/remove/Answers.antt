@@ -32,7 +32,7 @@ pub take-requires : goal.take-requires
 take-requires c =
     let here : value_at c.self.inside.keys c.args.id ≡ Some c.in-Some.key = sym c.remove.ensures.taken ∙ c.in-Some.is in
     let live : has c.args.self.now c.args.id ≡ true = sym (is_there c.args.self.now c.self.inside.keys c.self.inside.nodes c.args.id c.self.view_is c.self.invariant.0.0) ∙ ap is_some here in
-    let p : c.parent-parent.result ≡ parent_of (row_at c.args.self.now c.args.id) = c.parent-parent.ensures ∙ ap parent_of (node_is c.args.self.now c.self.inside.keys c.self.inside.nodes c.args.id c.in-Some.key c.remove-node.result c.self.view_is c.self.invariant.0.0 here c.remove-node.ensures.value) in
+    let p : c.parent-parent.result ≡ parent_of (row_at c.args.self.now c.args.id) = c.parent-parent.ensures ∙ ap parent_of (node_is c.args.self.now c.self.inside.keys c.self.inside.nodes c.args.id c.in-Some.key c.index-node.result.now c.self.view_is c.self.invariant.0.0 here c.index-node.ensures) in
     record {
       noted = λ v. parent_noted c.args.self.now c.args.id v c.self.inside.children c.parent-parent.result live p
           (counted_same (rows_of c.self.inside.nodes c.self.inside.keys) c.args.self.now c.self.inside.children c.self.view_is c.self.invariant.1);
@@ -41,21 +41,21 @@ take-requires c =
 pub returns-clause-rows : goal.returns-clause-rows
 returns-clause-rows c =
     let here : value_at c.self.inside.keys c.args.id ≡ Some c.in-Some.key = sym c.remove.ensures.taken ∙ c.in-Some.is in
-    gone c.args.self.now c.self.inside.keys c.remove.new.self c.self.inside.nodes c.remove-node.new.self c.args.id c.in-Some.key c.self.view_is c.self.invariant.0.0 c.remove.ensures.rises here c.remove.ensures.put c.remove-node.ensures.updates
+    gone c.args.self.now c.self.inside.keys c.remove.new.self c.self.inside.nodes c.remove-2.new.self c.args.id c.in-Some.key c.self.view_is c.self.invariant.0.0 c.remove.ensures.rises here c.remove.ensures.put c.remove-2.ensures.updates
 
 pub returns-clause-parent : goal.returns-clause-parent
 returns-clause-parent c =
     let here : value_at c.self.inside.keys c.args.id ≡ Some c.in-Some.key = sym c.remove.ensures.taken ∙ c.in-Some.is in
-    c.parent-parent.ensures ∙ ap parent_of (node_is c.args.self.now c.self.inside.keys c.self.inside.nodes c.args.id c.in-Some.key c.remove-node.result c.self.view_is c.self.invariant.0.0 here c.remove-node.ensures.value)
+    c.parent-parent.ensures ∙ ap parent_of (node_is c.args.self.now c.self.inside.keys c.self.inside.nodes c.args.id c.in-Some.key c.index-node.result.now c.self.view_is c.self.invariant.0.0 here c.index-node.ensures)
 
 pub invariant_of-self-2 : goal.invariant_of-self-2
 invariant_of-self-2 c =
     let here : value_at c.self.inside.keys c.args.id ≡ Some c.in-Some.key = sym c.remove.ensures.taken ∙ c.in-Some.is in
     let live : has c.args.self.now c.args.id ≡ true = sym (is_there c.args.self.now c.self.inside.keys c.self.inside.nodes c.args.id c.self.view_is c.self.invariant.0.0) ∙ ap is_some here in
-    let p : c.parent-parent.result ≡ parent_of (row_at c.args.self.now c.args.id) = c.parent-parent.ensures ∙ ap parent_of (node_is c.args.self.now c.self.inside.keys c.self.inside.nodes c.args.id c.in-Some.key c.remove-node.result c.self.view_is c.self.invariant.0.0 here c.remove-node.ensures.value) in
-    let e = gone c.args.self.now c.self.inside.keys c.remove.new.self c.self.inside.nodes c.remove-node.new.self c.args.id c.in-Some.key c.self.view_is c.self.invariant.0.0 c.remove.ensures.rises here c.remove.ensures.put c.remove-node.ensures.updates in (
+    let p : c.parent-parent.result ≡ parent_of (row_at c.args.self.now c.args.id) = c.parent-parent.ensures ∙ ap parent_of (node_is c.args.self.now c.self.inside.keys c.self.inside.nodes c.args.id c.in-Some.key c.index-node.result.now c.self.view_is c.self.invariant.0.0 here c.index-node.ensures) in
+    let e = gone c.args.self.now c.self.inside.keys c.remove.new.self c.self.inside.nodes c.remove-2.new.self c.args.id c.in-Some.key c.self.view_is c.self.invariant.0.0 c.remove.ensures.rises here c.remove.ensures.put c.remove-2.ensures.updates in (
       (
-        gone_table c.self.inside.keys c.remove.new.self c.self.inside.nodes c.remove-node.new.self c.args.id c.in-Some.key c.self.invariant.0.0 c.remove.ensures.rises here c.remove.ensures.put c.remove-node.ensures.updates,
+        gone_table c.self.inside.keys c.remove.new.self c.self.inside.nodes c.remove-2.new.self c.args.id c.in-Some.key c.self.invariant.0.0 c.remove.ensures.rises here c.remove.ensures.put c.remove-2.ensures.updates,
         subst (λ (t : Rows). AreListed t c.forget.new.self) (sym e) (listed_gone c.args.self.now c.self.inside.marked c.forget.new.self c.args.id c.forget.ensures.stay (subst (λ (t : Rows). AreListed t c.self.inside.marked) c.self.view_is c.self.invariant.0.1)),
       ),
       counted_gone c.args.self.now _ c.args.id c.self.inside.children c.take.new.self c.parent-parent.result e (table_falls c.args.self.now c.self.inside.keys c.self.inside.nodes c.self.view_is c.self.invariant.0.0) live p c.take.ensures

@@ -33,14 +33,14 @@ invariant_of-self-2 g c =
     let ws = c.self.inside.watches.items in
     let fs = c.self.inside.flows.items in
     let e = c.self.inside.engine in
-    let t = c.written.new.engine in
+    let t = c.written-found.new.engine in
     let n = c.assign.new.self in
     let v = c.args.target in
     let leaving = c.self.inside.leaving.items in
-    let none : is_flow fs (root_of t.world v) ≡ false = ap (λ (w : World). is_flow fs (root_of w v)) c.written.ensures.same.world ∙ subst (λ (s : Seen). is_flow s.flows (root_of s.arrays.world v) ≡ false) (sym c.self.view_is) c.requires.unflowed in
-    let alone : affected t.world fs (root_of t.world v ∷ []) ≡ [] = ap (λ (w : World). affected w fs (root_of w v ∷ [])) c.written.ensures.same.world ∙ (subst (λ (s : Seen). IsAlone s v) (sym c.self.view_is) c.requires.alone).unfollowed in
+    let none : is_flow fs (root_of t.world v) ≡ false = ap (λ (w : World). is_flow fs (root_of w v)) c.written-found.ensures.same.world ∙ subst (λ (s : Seen). is_flow s.flows (root_of s.arrays.world v) ≡ false) (sym c.self.view_is) c.requires.unflowed in
+    let alone : affected t.world fs (root_of t.world v ∷ []) ≡ [] = ap (λ (w : World). affected w fs (root_of w v ∷ [])) c.written-found.ensures.same.world ∙ (subst (λ (s : Seen). IsAlone s v) (sym c.self.view_is) c.requires.alone).unfollowed in
     let vs = c.deref.result.now in
-    let held : IsHeld (state_in names ws fs t) t.holds leaving = held_readied names ws fs e t leaving c.written.ensures.same c.self.invariant in
+    let held : IsHeld (state_in names ws fs t) t.holds leaving = held_readied names ws fs e t leaving c.written-found.ensures.same c.self.invariant in
     let is = alone_followed laws names ws fs t n v vs held.whole c.assign.ensures.world c.assign.ensures.next c.assign.ensures.sound none alone in
     held_assigned c.keeping_laws.ensures.assigned names ws fs t n v vs leaving held c.assign.ensures.world c.assign.ensures.holds
     (whole_assigned c.assignment_laws.ensures.looks c.assignment_laws.ensures.numbers names ws fs t n v vs held.whole c.assign.ensures.world c.assign.ensures.next c.assign.ensures.sound
@@ -61,16 +61,16 @@ returns-clause-runs g c =
     let ws = c.self.inside.watches.items in
     let fs = c.self.inside.flows.items in
     let e = c.self.inside.engine in
-    let t = c.written.new.engine in
+    let t = c.written-found.new.engine in
     let n = c.assign.new.self in
     let v = c.args.target in
     let leaving = c.self.inside.leaving.items in
-    let none : is_flow fs (root_of t.world v) ≡ false = ap (λ (w : World). is_flow fs (root_of w v)) c.written.ensures.same.world ∙ subst (λ (s : Seen). is_flow s.flows (root_of s.arrays.world v) ≡ false) (sym c.self.view_is) c.requires.unflowed in
-    let alone : affected t.world fs (root_of t.world v ∷ []) ≡ [] = ap (λ (w : World). affected w fs (root_of w v ∷ [])) c.written.ensures.same.world ∙ (subst (λ (s : Seen). IsAlone s v) (sym c.self.view_is) c.requires.alone).unfollowed in
-    let values = c.in-Ok.values.items in
-    let same = readied names ws fs e t c.written.ensures.same ∙ ap machine c.self.view_is in
-    let world : n.world ≡ assign t.world v values = c.assign.ensures.world ∙ ap (assign t.world v) c.deref.ensures.value in
-    let held : IsHeld (state_in names ws fs t) t.holds leaving = held_readied names ws fs e t leaving c.written.ensures.same c.self.invariant in
+    let none : is_flow fs (root_of t.world v) ≡ false = ap (λ (w : World). is_flow fs (root_of w v)) c.written-found.ensures.same.world ∙ subst (λ (s : Seen). is_flow s.flows (root_of s.arrays.world v) ≡ false) (sym c.self.view_is) c.requires.unflowed in
+    let alone : affected t.world fs (root_of t.world v ∷ []) ≡ [] = ap (λ (w : World). affected w fs (root_of w v ∷ [])) c.written-found.ensures.same.world ∙ (subst (λ (s : Seen). IsAlone s v) (sym c.self.view_is) c.requires.alone).unfollowed in
+    let values = c.in-Ok.found in
+    let same = readied names ws fs e t c.written-found.ensures.same ∙ ap machine c.self.view_is in
+    let world : n.world ≡ assign t.world v values = c.assign.ensures.world ∙ ap (assign t.world v) (c.deref.ensures.value ∙ c.in_ok-values.ensures) in
+    let held : IsHeld (state_in names ws fs t) t.holds leaving = held_readied names ws fs e t leaving c.written-found.ensures.same c.self.invariant in
     let is = alone_followed laws names ws fs t n v values held.whole world c.assign.ensures.next c.assign.ensures.sound none alone in
     let P : State → Type 0 = λ s. Prints (and_then (assigned c.args.sign s.arrays v c.args.value) (λ a. Ok (flowed (with_arrays s a), []))) (state_in names ws fs n) [] [] in
     subst P same (values_flowed c.args.sign names ws fs t n v c.args.value values c.in-Ok.ensures.value is)
@@ -78,18 +78,18 @@ returns-clause-runs g c =
 pub returns-clause-views : goal.returns-clause-views
 returns-clause-views g c =
     let e = c.self.inside.engine in
-    let t = c.written.new.engine in
+    let t = c.written-found.new.engine in
     let P : Seen → Type 0 = λ s. KeepsViews c.assign.new.self.world s.arrays.world in
     subst P c.self.view_is (λ v is.
-    read_views e t c.written.ensures.same v
+    read_views e t c.written-found.ensures.same v
     (written_views c.assignment_laws.ensures.looks t.world c.assign.new.self.world c.args.target c.deref.result.now c.assign.ensures.world v is))
 
 pub returns-clause-warm : goal.returns-clause-warm
 returns-clause-warm g c =
-    let t = c.written.new.engine in
+    let t = c.written-found.new.engine in
     let P : Seen → Type 0 = λ s. IsLive s.arrays.world c.args.target in
     let live : IsLive c.self.inside.engine.world c.args.target = subst P (sym c.self.view_is) c.requires.target in
-    let there : IsLive t.world c.args.target = subst (λ w. IsLive w c.args.target) (sym c.written.ensures.same.world) live in
+    let there : IsLive t.world c.args.target = subst (λ w. IsLive w c.args.target) (sym c.written-found.ensures.same.world) live in
     warmed c.assignment_laws.ensures.bases t c.assign.new.self c.args.target c.deref.result.now there c.assign.ensures.world c.assign.ensures.target
 
 pub returns-clause-counted : goal.returns-clause-counted
@@ -98,9 +98,9 @@ returns-clause-counted g c =
     let u = c.args.value in
     let e = c.self.inside.engine in
     let P : Seen → Type 0 = λ s. c.assign.new.steps ≤ c.args.steps.now + (read_steps (engine_of s) v + read_steps (engine_of s) u) + size_of (dims_in s.arrays.world v) in
-    let found = c.written.ensures.counted in
-    let count : length c.deref.result.now ≡ size_of (dims_in c.written.new.engine.world v) = ap length c.deref.ensures.value ∙ c.in-Ok.ensures.made.count in
-    let sizes : size_of (dims_in c.written.new.engine.world v) ≡ size_of (dims_in e.world v) = ap (λ w. size_of (dims_in w v)) c.written.ensures.same.world in
+    let found = c.written-found.ensures.counted in
+    let count : length c.deref.result.now ≡ size_of (dims_in c.written-found.new.engine.world v) = ap length (c.deref.ensures.value ∙ c.in_ok-values.ensures) ∙ c.in-Ok.ensures.made.count in
+    let sizes : size_of (dims_in c.written-found.new.engine.world v) ≡ size_of (dims_in e.world v) = ap (λ w. size_of (dims_in w v)) c.written-found.ensures.same.world in
     let moved = c.assign.ensures.counted in
     subst P c.self.view_is (omega (arith, found, count, sizes, moved))
 
@@ -108,5 +108,12 @@ pub returns-in-Err-clause-counted : goal.returns-in-Err-clause-counted
 returns-in-Err-clause-counted g c =
     let v = c.args.target in
     let u = c.args.value in
-    let P : Seen → Type 0 = λ s. c.written.new.steps ≤ c.args.steps.now + (read_steps (engine_of s) v + read_steps (engine_of s) u) + size_of (dims_in s.arrays.world v) in
-    subst P c.self.view_is (let found = c.written.ensures.counted in omega (arith, found))
+    let P : Seen → Type 0 = λ s. c.written-found.new.steps ≤ c.args.steps.now + (read_steps (engine_of s) v + read_steps (engine_of s) u) + size_of (dims_in s.arrays.world v) in
+    subst P c.self.view_is (let found = c.written-found.ensures.counted in omega (arith, found))
+
+pub returns-in_err-values-clause-counted : goal.returns-in_err-values-clause-counted
+returns-in_err-values-clause-counted g c =
+    let v = c.args.target in
+    let u = c.args.value in
+    let P : Seen → Type 0 = λ s. c.written-found.new.steps ≤ c.args.steps.now + (read_steps (engine_of s) v + read_steps (engine_of s) u) + size_of (dims_in s.arrays.world v) in
+    subst P c.self.view_is (let found = c.written-found.ensures.counted in omega (arith, found))

@@ -1,0 +1,78 @@
+use Rattle.std.proofs.Common.{arith, ◌≡◌, All, true, sym, ◌∙◌, ap, subst}
+use Rattle.pdl_elem.specs.Types.{InRange}
+use Rattle.pdl_elem.specs.declared.Ty.{Ty}
+use Rattle.pdl_shape.specs.Shape.{size_of}
+use Rattle.pdl_world.specs.Paths.{root_of}
+use Rattle.pdl_world.specs.Sound.{IsLive, IsSound}
+use Rattle.pdl_world.specs.Swept.{is_listed}
+use Rattle.pdl_world.specs.World.{World, dims_in, ty_in}
+use Rattle.pdl_world.specs.Parts.{assign_part}
+use Rattle.pdl_nodes.specs.Rows.{has}
+use Rattle.pdl_nodes.specs.Worlds.{world_of}
+use Rattle.pdl_engine.specs.State.{State, TargetIsFresh, TargetWaits}
+use Rattle.pdl_engine.specs.StateOf.{state_of, fresh_among}
+use Rattle.pdl_engine.proofs.Bounds.{target_fresh}
+use Rattle.pdl_engine.proofs.Kept.{beside_alike, below_alike, others_fresh}
+use Rattle.pdl_engine.proofs.Lazy.{target_waits}
+use Rattle.pdl_engine.proofs.Stating.{live_has, root_are, fresh_is, fresh_live, holds_alike}
+use Rattle.pdl_engine.proofs.Tight.{tight_alike}
+use Rattle.pdl_engine.proofs.engine.Engine.replace.Goals as goal
+
+pub replace-requires-clause-write : goal.replace-requires-clause-write
+replace-requires-clause-write c = record {
+  order = c.self.invariant.0.order;
+  known = c.self.invariant.0.known;
+  live = (live_has c.row_laws.ensures c.self.inside.table c.args.id (subst (λ (w : World). IsLive w c.args.id) (sym (ap (λ (s : State). s.world) c.self.view_is)) c.requires.live));
+  fresh = sym (fresh_is c.row_laws.ensures c.self.inside.table c.args.id c.self.invariant.0.order.still (live_has c.row_laws.ensures c.self.inside.table c.args.id (subst (λ (w : World). IsLive w c.args.id) (sym (ap (λ (s : State). s.world) c.self.view_is)) c.requires.live))) ∙ ap (λ (s : State). is_listed s.fresh c.args.id) c.self.view_is ∙ c.requires.fresh;
+  within = omega (arith, c.requires.count, ap size_of (ap (λ w. dims_in w c.args.id) (sym (ap (λ (s : State). s.world) c.self.view_is)) ∙ c.row_laws.ensures.seen.dims_are c.self.inside.table c.args.id c.self.invariant.0.order.still (live_has c.row_laws.ensures c.self.inside.table c.args.id (subst (λ (w : World). IsLive w c.args.id) (sym (ap (λ (s : State). s.world) c.self.view_is)) c.requires.live))));
+  in_range = subst (λ (y : Ty). All (InRange y) c.args.values.elems) (ap (λ w. ty_in w c.args.id) (sym (ap (λ (s : State). s.world) c.self.view_is)) ∙ c.row_laws.ensures.seen.ty_are c.self.inside.table c.args.id c.self.invariant.0.order.still (live_has c.row_laws.ensures c.self.inside.table c.args.id (subst (λ (w : World). IsLive w c.args.id) (sym (ap (λ (s : State). s.world) c.self.view_is)) c.requires.live))) c.requires.in_range;
+}
+
+pub replace-requires-clause-root : goal.replace-requires-clause-root
+replace-requires-clause-root c =
+    sym (root_are c.row_laws.ensures c.self.inside.table c.args.id c.self.invariant.0.order.still (live_has c.row_laws.ensures c.self.inside.table c.args.id (subst (λ (w : World). IsLive w c.args.id) (sym (ap (λ (s : State). s.world) c.self.view_is)) c.requires.live))) ∙ ap (λ w. root_of w c.args.id) (ap (λ (s : State). s.world) c.self.view_is) ∙ c.requires.root
+
+pub replace-requires-clause-count : goal.replace-requires-clause-count
+replace-requires-clause-count c = c.requires.count ∙ ap size_of (ap (λ w. dims_in w c.args.id) (sym (ap (λ (s : State). s.world) c.self.view_is)) ∙ c.row_laws.ensures.seen.dims_are c.self.inside.table c.args.id c.self.invariant.0.order.still (live_has c.row_laws.ensures c.self.inside.table c.args.id (subst (λ (w : World). IsLive w c.args.id) (sym (ap (λ (s : State). s.world) c.self.view_is)) c.requires.live)))
+
+pub replace-requires-clause-same_type : goal.replace-requires-clause-same_type
+replace-requires-clause-same_type c = c.requires.type_is ∙ (ap (λ w. ty_in w c.args.id) (sym (ap (λ (s : State). s.world) c.self.view_is)) ∙ c.row_laws.ensures.seen.ty_are c.self.inside.table c.args.id c.self.invariant.0.order.still (live_has c.row_laws.ensures c.self.inside.table c.args.id (subst (λ (w : World). IsLive w c.args.id) (sym (ap (λ (s : State). s.world) c.self.view_is)) c.requires.live)))
+
+pub returns-clause-world : goal.returns-clause-world
+returns-clause-world c =
+    c.replace.ensures.assigned.world ∙ ap (λ (s : State). assign_part s.world c.args.id 0 c.args.values.elems) c.self.view_is ∙ sym (c.part_laws.ensures.wholes c.args.self.now.world c.args.id c.args.values.elems)
+
+pub invariant_of-self : goal.invariant_of-self
+invariant_of-self c = (
+  record {
+    order = c.replace.ensures.assigned.order;
+    known = c.replace.ensures.assigned.known;
+    sized = c.row_laws.ensures.kept.sized_alike c.self.inside.table c.replace.new.table c.self.invariant.0.order.still c.replace.ensures.assigned.order.still c.replace.ensures.assigned.alike c.self.invariant.0.sized;
+    sound = subst (λ (w : World). IsSound w) (sym c.replace.ensures.assigned.world) (c.part_laws.ensures.sound (world_of c.self.inside.table) c.args.id 0 c.args.values.elems c.self.invariant.0.sound (subst (λ (w : World). All (InRange (ty_in w c.args.id)) c.args.values.elems) (sym (ap (λ (s : State). s.world) c.self.view_is)) c.requires.in_range));
+    beside = beside_alike c.self.inside.table c.replace.new.table c.self.inside.holds c.replace.ensures.assigned.alike c.self.invariant.0.beside;
+    below = below_alike c.self.inside.table c.replace.new.table c.self.inside.next c.replace.ensures.assigned.alike.numbers_are c.self.invariant.0.below;
+    room = c.self.invariant.0.room;
+  },
+  tight_alike c.self.inside.loose.items c.self.inside.table c.replace.new.table c.self.inside.holds c.replace.ensures.assigned.alike c.self.invariant.1,
+)
+
+pub returns-clause-holds : goal.returns-clause-holds
+returns-clause-holds c = holds_alike c.self.inside.table c.replace.new.table c.self.inside.holds c.replace.ensures.assigned.alike.numbers_are ∙ ap (λ (s : State). s.holds) c.self.view_is
+
+pub returns-clause-others : goal.returns-clause-others
+returns-clause-others c = λ u n f.
+    let h : is_listed (fresh_among c.self.inside.table c.self.inside.table) u ≡ true = ap (λ (s : State). is_listed s.fresh u) c.self.view_is ∙ f in
+    let l : has c.self.inside.table u ≡ true = fresh_live c.self.inside.table u h in
+    fresh_is c.row_laws.ensures c.replace.new.table u c.replace.ensures.assigned.order.still (c.replace.ensures.assigned.alike.has_is u ∙ l)
+    ∙ others_fresh c.row_laws.ensures c.self.inside.table c.replace.new.table c.args.id u c.self.invariant.0.order.still c.replace.ensures.assigned.order.still c.replace.ensures.assigned.alike c.replace.ensures.assigned.marks l
+    (λ e. n (ap (λ w. root_of w u) (sym (ap (λ (s : State). s.world) c.self.view_is)) ∙ root_are c.row_laws.ensures c.self.inside.table u c.self.invariant.0.order.still l ∙ e ∙ sym (root_are c.row_laws.ensures c.self.inside.table c.args.id c.self.invariant.0.order.still (live_has c.row_laws.ensures c.self.inside.table c.args.id (subst (λ (w : World). IsLive w c.args.id) (sym (ap (λ (s : State). s.world) c.self.view_is)) c.requires.live))) ∙ ap (λ w. root_of w c.args.id) (ap (λ (s : State). s.world) c.self.view_is)))
+    (sym (fresh_is c.row_laws.ensures c.self.inside.table u c.self.invariant.0.order.still l) ∙ h)
+
+pub returns-clause-target : goal.returns-clause-target
+returns-clause-target c = subst (λ (s : State). TargetIsFresh s c.args.id (state_of c.replace.new.table c.self.inside.holds c.self.inside.next)) c.self.view_is (target_fresh c.row_laws.ensures c.self.inside.table c.replace.new.table c.self.inside.holds c.self.inside.holds c.self.inside.next c.self.inside.next c.args.id c.self.invariant.0.order.still c.replace.ensures.assigned.order.still (live_has c.row_laws.ensures c.self.inside.table c.args.id (subst (λ (w : World). IsLive w c.args.id) (sym (ap (λ (s : State). s.world) c.self.view_is)) c.requires.live)) c.replace.ensures.assigned.alike c.replace.ensures.assigned.marks)
+
+pub returns-clause-waits : goal.returns-clause-waits
+returns-clause-waits c = subst (λ (s : State). TargetWaits s c.args.id (state_of c.replace.new.table c.self.inside.holds c.self.inside.next)) c.self.view_is (target_waits c.row_laws.ensures c.self.inside.table c.replace.new.table c.self.inside.holds c.self.inside.holds c.self.inside.next c.self.inside.next c.args.id c.self.invariant.0.order.still c.replace.ensures.assigned.order.still (live_has c.row_laws.ensures c.self.inside.table c.args.id (subst (λ (w : World). IsLive w c.args.id) (sym (ap (λ (s : State). s.world) c.self.view_is)) c.requires.live)) c.replace.ensures.assigned.alike c.replace.ensures.waits)
+
+pub returns-clause-sound : goal.returns-clause-sound
+returns-clause-sound c = (invariant_of-self c).0.sound
