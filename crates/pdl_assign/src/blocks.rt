@@ -23,6 +23,10 @@ use std::sync::ledger::Ledger;
 /// So many values are found and written at once.
 pub const BLOCK: usize = 1024;
 
+/// So many of arrays that have more: what is done once a block then takes less, and of turned planes
+/// some rows are read side by side.
+const LONG: usize = 4096;
+
 /// So many values that are there are written at once.
 const SHOWN: usize = 512;
 
@@ -109,9 +113,61 @@ fn count_of(engine: &Engine, id: ArrayId) -> usize
     elements_of(strided_dims(&window)) as usize
 }
 
-/// Finds and writes the values of an assignment that nothing refuses, block by block. It takes a
-/// step for each.
+/// Finds and writes the values of an assignment that nothing refuses, in blocks as long as the rooms
+/// for one. It takes a step for each.
 fn write_blocks<L: Ledger>(
+    engine: &mut Engine,
+    sign: AssignOp,
+    target: ArrayId,
+    source: ArrayId,
+    dims: &Dims,
+    values: &mut [i64],
+    left: &mut [i64],
+    right: &mut [i64],
+    steps: &mut Steps<L>,
+)
+    requires room { 0 < length values.old }
+    requires left { length left.old ≡ length values.old }
+    requires right { length right.old ≡ length values.old }
+    requires sound { IsSound engine.old.world }
+    requires target { IsLive engine.old.world target }
+    requires source { IsLive engine.old.world source }
+    requires target_fresh { is_fresh engine.old target ≡ true }
+    requires source_fresh { is_fresh engine.old source ≡ true }
+    requires dims { dims.now ≡ dims_in engine.old.world target }
+    requires stretches { BroadcastsTo (dims_in engine.old.world source) dims.now }
+    requires can { CanBlock sign engine.old.world target source }
+    requires never { is_ok (written_in sign engine.old.world target source) ≡ true }
+    ensures written { AreWritten sign engine.old target source engine.new }
+    ensures counted { steps.new ≡ steps.old + size_of (dims_in engine.old.world target) }
+{
+    part_laws();
+    assignment_laws();
+    value_laws();
+    let count = count_of(engine, target);
+    let mut done = 0;
+    while done < count {
+        let size = (count - done).min(values.len());
+        let first = done as u32;
+        find_block(
+            engine,
+            sign,
+            target,
+            source,
+            dims,
+            first,
+            &mut values[..size],
+            &mut left[..size],
+            &mut right[..size],
+        );
+        engine.assign_part(target, first, &values[..size], steps);
+        done += size;
+    }
+}
+
+/// Finds and writes the values of an assignment that nothing refuses. It takes a step for each, and
+/// no memory.
+fn write_values<L: Ledger>(
     engine: &mut Engine,
     sign: AssignOp,
     target: ArrayId,
@@ -131,30 +187,36 @@ fn write_blocks<L: Ledger>(
     ensures written { AreWritten sign engine.old target source engine.new }
     ensures counted { steps.new ≡ steps.old + size_of (dims_in engine.old.world target) }
 {
-    part_laws();
-    assignment_laws();
-    value_laws();
-    let count = count_of(engine, target);
-    let mut values = [0; BLOCK];
-    let mut left = [0; BLOCK];
-    let mut right = [0; BLOCK];
-    let mut done = 0;
-    while done < count {
-        let size = (count - done).min(BLOCK);
-        let first = done as u32;
-        find_block(
+    if count_of(engine, target) <= LONG {
+        let mut values = [0; BLOCK];
+        let mut left = [0; BLOCK];
+        let mut right = [0; BLOCK];
+        write_blocks(
             engine,
             sign,
             target,
             source,
             dims,
-            first,
-            &mut values[..size],
-            &mut left[..size],
-            &mut right[..size],
-        );
-        engine.assign_part(target, first, &values[..size], steps);
-        done += size;
+            &mut values,
+            &mut left,
+            &mut right,
+            steps,
+        )
+    } else {
+        let mut values = [0; LONG];
+        let mut left = [0; LONG];
+        let mut right = [0; LONG];
+        write_blocks(
+            engine,
+            sign,
+            target,
+            source,
+            dims,
+            &mut values,
+            &mut left,
+            &mut right,
+            steps,
+        )
     }
 }
 
@@ -185,7 +247,7 @@ pub fn assign_blocks<L: Ledger>(
     let dims = copy_dims(engine.dims(target));
     match refusal(engine, sign, target, source, &dims) {
         Ok(()) => {
-            write_blocks(engine, sign, target, source, &dims, steps);
+            write_values(engine, sign, target, source, &dims, steps);
             Ok(())
         }
         Err(fault) => Err(fault),

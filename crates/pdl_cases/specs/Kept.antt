@@ -19,8 +19,8 @@ AreKept s arrays = All (IsKept s) arrays
 abbrev pub recounted : (more : Bool) → (v u n : ℕ) → ℕ
 recounted more v u n = if u == v then (if more then n + 1 else n - 1) else n
 
--- v is held once more, or once less, in a world that stays sound: each live array is held so, and is live still if it
--- is held at all
+-- v is held once more, or once less, in a world that stays sound: each live array is held so, and is
+-- live still if it is held at all
 abbrev pub Recounts : (more : Bool) → ℕ → (old new : State) → Type 0
 Recounts more v old new =
     (u n : ℕ) → IsSound old.world → IsLive old.world u → count_at old.holds u ≡ n → 0 < n

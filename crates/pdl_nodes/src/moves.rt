@@ -1,5 +1,8 @@
 //! The routes by which values go into buffers, each from a position on.
-ghost use Rattle.std.specs.Prelude.{◌≡◌, ◌<◌};
+ghost use Rattle.std.specs.Prelude.{◌≡◌, ◌<◌, ◌≤◌, ◌+◌, ℕ, Some, IsTrue, is_some};
+ghost use Rattle.std.specs.List.{list_all};
+ghost use Rattle.pdl_numbers.specs.Shown.{place_at};
+ghost use Rattle.pdl_shape.specs.Shape.{extent_limit, size_of};
 ghost use Rattle.pdl_nodes.specs.Assigned.{entry, seen};
 ghost use Rattle.pdl_nodes.specs.Placed.{placed};
 
@@ -36,6 +39,35 @@ fn seen(places: &[Option<u32>], spot: u32) -> Option<u32>
         Some(_) => Some(spot),
         None => None,
     }
+}
+
+/// Whether each of these is a place.
+fn are_all(places: &[Option<u32>]) -> bool
+    ensures { result ≡ list_all is_some places.now }
+{
+    places.iter().all(|place| place.is_some())
+}
+
+/// Whether each of so many positions from one on shows the base's place of the same number, and all
+/// of these have one of these places in the root.
+pub(crate) fn are_seen(
+    places: &[Option<u32>],
+    placement: &Placement,
+    first: u32,
+    count: usize,
+) -> bool
+    requires within { first + count ≤ size_of placement.now.dims }
+    requires small { size_of placement.now.dims ≤ extent_limit }
+    ensures { IsTrue result → (p : ℕ) → p < count →
+        seen places.now (place_at placement.now (first + p))
+        ≡ Some (place_at placement.now (first + p)) }
+{
+    let from = first as usize;
+    let end = from + count;
+    if places.len() < end {
+        return false;
+    }
+    placement.is_identity() && are_all(&places[from..end])
 }
 
 /// The root's places that a placement shows over a base, of which these are the root's places,

@@ -11,7 +11,7 @@ ghost use Rattle.pdl_nodes.specs.Changes.{or_known};
 ghost use Rattle.pdl_nodes.specs.Placed.{goes_by, in_order, placed_by};
 ghost use Rattle.pdl_nodes.specs.Spots.{spots};
 
-use crate::moves::{OverBase, ThroughBase};
+use crate::moves::{OverBase, ThroughBase, are_seen};
 use crate::origin::Origin;
 use pdl_buf::{Buf, Steps, scatter_along, scatter_by, scatter_from, scatter_onward};
 use pdl_choice::Places;
@@ -396,6 +396,9 @@ impl Node {
     {
         let _count = elements_of(&triple.dims);
         let placement = Placement::of(triple);
+        if are_seen(places, &placement, first, values.len()) {
+            return self.put_along(&placement, first, values, steps);
+        }
         let route = ThroughBase {
             placement,
             places,

@@ -1,5 +1,5 @@
 -- Runs along dimension 0, and blocks made of them.
-use Rattle.std.proofs.Common.{◌≡◌, ℕ, ◌+◌, ◌-◌, ◌*◌, ◌/◌, ◌%◌, ◌<◌, ◌≤◌, ℤ, pos, negsuc, ◌+ℤ◌, ◌*ℤ◌, ◌≤ℤ◌, ◌<ℤ◌, List, [], ◌∷◌, ◌++◌, length, take, get_or, ap, ap₂, sym, ◌∙◌, subst, arith, to_z, of_z, Fits, FitsSigned, div-add-mod', mod-lt, inl, inr, All}
+use Rattle.std.proofs.Common.{◌≡◌, ℕ, ◌+◌, ◌-◌, ◌*◌, ◌/◌, ◌%◌, ◌<◌, ◌≤◌, ℤ, pos, negsuc, ◌+ℤ◌, ◌*ℤ◌, ◌≤ℤ◌, ◌<ℤ◌, List, [], ◌∷◌, ◌++◌, length, take, get_or, refl, ap, ap₂, sym, ◌∙◌, subst, arith, to_z, of_z, Fits, FitsSigned, div-add-mod', mod-lt, inl, inr, All}
 use Rattle.std.proofs.lemmas.Int.{ints, to_z-of_z, to_z_pos}
 use Rattle.std.proofs.Math.IntN.{negsuc-*ℤ-pos, +ℤ_assoc}
 use Rattle.std.proofs.lemmas.Bool.{cases_lt}
@@ -17,7 +17,7 @@ use Rattle.pdl_elem.specs.Types.{InRange}
 use Rattle.pdl_shape.specs.Laws.{PositionLaws}
 use Rattle.pdl_shape.specs.Shape.{size_of, coordinates_of}
 use Rattle.pdl_shape.specs.Triple.{Triple, IsPlace, IsTriple, Reaches, moved}
-use Rattle.pdl_numbers.specs.Reads.{IsInside, HasRead, LieAcross, across}
+use Rattle.pdl_numbers.specs.Reads.{IsInside, LiesInside, HasRead, HasStepped, LieAcross, across}
 use Rattle.pdl_numbers.specs.Shown.{IsInOrder, place_at}
 use Rattle.pdl_numbers.proofs.Ordered.{in_order_at}
 use Rattle.pdl_numbers.proofs.Walking.{step_bound, step_fits, IsShown, shown_at}
@@ -243,3 +243,84 @@ run_element laws t es numbers place inc p j width ok reach same at along across 
     let r : Runs t (length es) p j = run_at laws t (length es) p j ok reach h (subst (λ w. p % w + j < w) across row) in
     ap (λ (xs : List ℤ). get_or xs (unsigned_abs (pos place +ℤ inc *ℤ pos j)) (pos 0)) same
     ∙ ap (λ (z : ℤ). get_or es (unsigned_abs z) (pos 0)) (ap₂ (λ n z. pos n +ℤ z *ℤ pos j) at along ∙ r.is)
+
+-- ---- rows side by side
+
+-- all places of a whole row are there
+pub row_fits : PositionLaws → (t : Triple) (es : List ℤ) (place : ℕ) (inc : ℤ) (p width : ℕ) → IsTriple t → Reaches t (length es) → place ≡ place_at t p → inc ≡ get_or t.incs 0 (pos 0) → width ≡ get_or t.dims 0 1
+    → p % width ≡ 0 → p + width ≤ size_of t.dims → LiesInside (length es) place inc width
+row_fits laws t es place inc p width ok reach at along wide start within j h = run_fits laws t es es place inc p j width ok reach refl at along wide (omega arith) (omega (arith, start))
+
+-- what stands in a run of places is a whole row
+pub row_read : PositionLaws → (t : Triple) (es xs : List ℤ) (place : ℕ) (inc : ℤ) (p width : ℕ) → IsTriple t → Reaches t (length es) → place ≡ place_at t p → inc ≡ get_or t.incs 0 (pos 0) → width ≡ get_or t.dims 0 1
+    → p % width ≡ 0 → p + width ≤ size_of t.dims → HasStepped es place inc width xs → HasRead t es p width xs
+row_read laws t es xs place inc p width ok reach at along wide start within stepped j h =
+    stepped j h ∙ run_element laws t es es place inc p j width ok reach refl at along wide (omega arith) (omega (arith, start))
+
+-- what was read, and what was read behind it
+pub read_both : (t : Triple) (es xs ys : List ℤ) (first n m : ℕ) → length xs ≡ n → HasRead t es first n xs → HasRead t es (first + n) m ys → HasRead t es first (n + m) (xs ++ ys)
+read_both t es xs ys first n m long before behind k h =
+    elim (cases_lt k n) [
+      | inl low ↦ get_or_append_left xs ys (pos 0) k (omega arith) ∙ before k low
+      | inr high ↦
+          let back : first + n + (k - n) ≡ first + k = omega arith in
+          get_or-append_right xs ys n k (pos 0) long high ∙ behind (k - n) (omega arith) ∙ ap (λ p. get_or es (place_at t p) (pos 0)) back
+    ]
+
+-- four whole rows from a position on, where one starts, lie in one plane; the first starts at a place
+pub record FourRows (t : Triple) (es : List ℤ) (p count place : ℕ) (step inc : ℤ) : Type 0 where
+  pub laws : PositionLaws
+  pub sound : IsTriple t
+  pub reaches : Reaches t (length es)
+  pub small : size_of t.dims ≤ 1048576
+  pub first : place ≡ place_at t p
+  pub along : step ≡ get_or t.incs 1 (pos 0)
+  pub across : inc ≡ get_or t.incs 0 (pos 0)
+  pub counted : count ≡ 4 * get_or t.dims 0 1
+  pub within : p + count ≤ size_of t.dims
+  pub some : p < size_of t.dims
+  pub starts : p % get_or t.dims 0 1 ≡ 0
+  pub plane : (p / get_or t.dims 0 1) % get_or t.dims 1 1 + 4 ≤ get_or t.dims 1 1
+
+pub row_of : (t : Triple) (es : List ℤ) (p count place : ℕ) (step inc : ℤ) → FourRows t es p count place step inc → (r : ℕ) → r < 4 → IsRow t p r count (get_or t.dims 0 1) (pos place +ℤ step *ℤ pos r)
+row_of t es p count place step inc f r h = row_is f.laws t (length es) p r 4 count place step f.sound f.reaches f.small f.first f.along h f.counted f.within f.some f.starts f.plane
+
+-- the places of row r, which starts so many steps after the first
+pub row_inside : (t : Triple) (es : List ℤ) (p count place : ℕ) (step inc : ℤ) → FourRows t es p count place step inc → (r start n : ℕ) → r < 4
+    → start ≡ unsigned_abs (pos place +ℤ step *ℤ pos r) → n ≡ get_or t.dims 0 1 → LiesInside (length es) start inc n
+row_inside t es p count place step inc f r start n h at wide =
+    let w : ℕ = get_or t.dims 0 1 in
+    let row : IsRow t p r count w (pos place +ℤ step *ℤ pos r) = row_of t es p count place step inc f r h in
+    subst (λ (m : ℕ). LiesInside (length es) start inc m) (sym wide)
+    (row_fits f.laws t es start inc (p + r * w) w f.sound f.reaches (at ∙ natural_place _ _ row.is) f.across refl row.starts (omega (arith, row.fits, f.within)))
+
+-- and what stands there
+pub row_there : (t : Triple) (es xs : List ℤ) (p count place : ℕ) (step inc : ℤ) → FourRows t es p count place step inc → (r start n : ℕ) → r < 4
+    → start ≡ unsigned_abs (pos place +ℤ step *ℤ pos r) → n ≡ get_or t.dims 0 1 → HasStepped es start inc n xs → HasRead t es (p + r * get_or t.dims 0 1) (get_or t.dims 0 1) xs
+row_there t es xs p count place step inc f r start n h at wide stepped =
+    let w : ℕ = get_or t.dims 0 1 in
+    let row : IsRow t p r count w (pos place +ℤ step *ℤ pos r) = row_of t es p count place step inc f r h in
+    row_read f.laws t es xs start inc (p + r * w) w f.sound f.reaches (at ∙ natural_place _ _ row.is) f.across refl row.starts (omega (arith, row.fits, f.within)) (subst (λ (m : ℕ). HasStepped es start inc m xs) wide stepped)
+
+-- the place no step after another
+pub no_step : (place : ℕ) (step : ℤ) → place ≡ unsigned_abs (pos place +ℤ step *ℤ pos 0)
+no_step place (pos n) = grind (arith, ints)
+no_step place (negsuc n) = grind (arith, ints)
+
+-- four rows, one behind another
+pub four_rows : (t : Triple) (es ws xs ys zs : List ℤ) (p w : ℕ) → length ws ≡ w → length xs ≡ w → length ys ≡ w
+    → HasRead t es (p + 0 * w) w ws → HasRead t es (p + 1 * w) w xs → HasRead t es (p + 2 * w) w ys → HasRead t es (p + 3 * w) w zs
+    → HasRead t es p (4 * w) (ws ++ (xs ++ (ys ++ zs)))
+four_rows t es ws xs ys zs p w k m n first second third fourth =
+    let fourth_at : p + 3 * w ≡ p + 2 * w + w = omega arith in
+    let third_at : p + 2 * w ≡ p + 1 * w + w = omega arith in
+    let second_at : p + 1 * w ≡ p + w = omega arith in
+    let first_at : p + 0 * w ≡ p = omega arith in
+    let all : w + (w + (w + w)) ≡ 4 * w = omega arith in
+    subst (λ (count : ℕ). HasRead t es p count (ws ++ (xs ++ (ys ++ zs)))) all
+    (read_both t es ws (xs ++ (ys ++ zs)) p w (w + (w + w)) k (subst (λ (q : ℕ). HasRead t es q w ws) first_at first)
+    (subst (λ (q : ℕ). HasRead t es q (w + (w + w)) (xs ++ (ys ++ zs))) second_at
+    (read_both t es xs (ys ++ zs) (p + 1 * w) w (w + w) m second
+    (subst (λ (q : ℕ). HasRead t es q (w + w) (ys ++ zs)) third_at
+    (read_both t es ys zs (p + 2 * w) w w n third
+    (subst (λ (q : ℕ). HasRead t es q w zs) fourth_at fourth))))))

@@ -8,6 +8,11 @@ pub record IsInside (n : ℕ) (z : ℤ) : Type 0 where
   pub place : IsPlace z
   pub high : z <ℤ pos n
 
+-- all of these places, each so far after the one before, are such places
+abbrev pub LiesInside : (n place : ℕ) → (inc : ℤ) → (count : ℕ) → Type 0
+LiesInside n place inc count =
+    (j : ℕ) → j < count → IsInside n (pos place +ℤ inc *ℤ pos j)
+
 -- the first count of these numbers are what the triple shows from a position on
 abbrev pub HasRead : Triple → (elems : List ℤ) → (first count : ℕ) → (read : List ℤ) → Type 0
 HasRead t es first count rs = (k : ℕ) → k < count →

@@ -7,7 +7,7 @@ ghost use Rattle.pdl_numbers.specs.Reads.{HasReadAcross, LieAcross, across};
 
 use crate::packed::{Packed, PackedType};
 use crate::placement::Placement;
-use crate::reads::{inc_along, read_run};
+use crate::reads::{are_at_once, inc_along, read_run};
 use pdl_shape::shape_laws;
 
 /// The elements that a triple shows of these numbers along dimension 1, from a position on.
@@ -29,5 +29,6 @@ pub(crate) fn read_across<T: PackedType<N>, const N: usize>(
     shape_laws();
     numbers.are_in_range();
     let place = placement.place(first);
-    read_run(numbers, place, inc_along(placement.triple(), 1), into);
+    let inc = inc_along(placement.triple(), 1);
+    read_run(numbers, place, inc, are_at_once(inc, into.len()), into);
 }

@@ -1,9 +1,10 @@
 //! Reading what a triple shows of packed numbers in blocks.
-ghost use Rattle.std.specs.Prelude.{◌≡◌, ◌<◌, ◌≤◌, ◌+◌, ◌%◌, ◌/◌, ◌*◌, ◌+ℤ◌, ◌*ℤ◌, ℕ, pos, length, get_or, All, unsigned_abs};
+ghost use Rattle.std.specs.Prelude.{◌≡◌, ◌<◌, ◌≤◌, ◌+◌, ◌%◌, ◌/◌, ◌*◌, ◌+ℤ◌, ◌*ℤ◌, ℕ, pos, length, get_or, map, All, IsTrue, unsigned_abs};
 ghost use Rattle.pdl_elem.specs.Types.{InRange};
 ghost use Rattle.pdl_shape.specs.Shape.{extent_limit, size_of};
 ghost use Rattle.pdl_shape.specs.Triple.{IsPlace, IsTriple, Reaches};
-ghost use Rattle.pdl_numbers.specs.Reads.{IsInside, HasRead, HasStepped};
+ghost use Rattle.pdl_numbers.specs.Bytes.{number_of};
+ghost use Rattle.pdl_numbers.specs.Reads.{IsInside, LiesInside, HasRead, HasStepped};
 ghost use Rattle.pdl_numbers.specs.Shown.{IsInOrder, place_at};
 
 use crate::packed::{Packed, PackedType};
@@ -28,6 +29,57 @@ fn read_steps<T: PackedType<N>, const N: usize>(
     }
 }
 
+/// The number so many steps after a place.
+fn number_after<T: PackedType<N>, const N: usize>(
+    cells: &[[u8; N]],
+    place: u32,
+    inc: i32,
+    steps: usize,
+) -> i64
+    requires steps { steps < extent_limit }
+    requires inside { IsInside (length cells.now) (pos place +ℤ inc *ℤ pos steps) }
+    ensures { let at = unsigned_abs (pos place +ℤ inc *ℤ pos steps) in
+        result ≡ get_or (map (number_of T.ty) cells.now) at (pos 0) }
+{
+    T::unpack(&cells[place_after(place, inc, steps)])
+}
+
+/// The numbers from each of four places on, each so far after the one before. Where the places are
+/// neighbours, each part of the buffer that stands in the cache is looked at once for the four.
+fn read_side_by_side<T: PackedType<N>, const N: usize>(
+    numbers: &Packed<T, N>,
+    first: u32,
+    second: u32,
+    third: u32,
+    fourth: u32,
+    inc: i32,
+    a: &mut [i64],
+    b: &mut [i64],
+    c: &mut [i64],
+    d: &mut [i64],
+)
+    requires small { length a.old ≤ extent_limit }
+    requires b_paired { length b.old ≡ length a.old }
+    requires c_paired { length c.old ≡ length a.old }
+    requires d_paired { length d.old ≡ length a.old }
+    requires a_inside { LiesInside (length numbers.now) first inc (length a.old) }
+    requires b_inside { LiesInside (length numbers.now) second inc (length a.old) }
+    requires c_inside { LiesInside (length numbers.now) third inc (length a.old) }
+    requires d_inside { LiesInside (length numbers.now) fourth inc (length a.old) }
+    ensures a_value { HasStepped numbers.now first inc (length a.old) a.new }
+    ensures b_value { HasStepped numbers.now second inc (length a.old) b.new }
+    ensures c_value { HasStepped numbers.now third inc (length a.old) c.new }
+    ensures d_value { HasStepped numbers.now fourth inc (length a.old) d.new }
+{
+    let cells = numbers.cells();
+    for j in 0..a.len() {
+        a[j] = number_after::<T, N>(cells, first, inc, j);
+        b[j] = number_after::<T, N>(cells, second, inc, j);
+        c[j] = number_after::<T, N>(cells, third, inc, j);
+        d[j] = number_after::<T, N>(cells, fourth, inc, j);
+    }
+}
+
 /// Sets each of them to one number.
 fn repeat_number(number: i64, into: &mut [i64])
     ensures { (j : ℕ) → j < length into.old → get_or into.new j (pos 0) ≡ number }
@@ -37,20 +89,32 @@ fn repeat_number(number: i64, into: &mut [i64])
     }
 }
 
-/// The numbers from a place on, each so far after the one before: neighbours at once, and one number
-/// again and again where that is nowhere.
+/// Whether so many numbers, each so far after the one before, are neighbours that are read at once.
+/// Fewer take less one by one.
+pub(crate) fn are_at_once(inc: i32, count: usize) -> bool
+    ensures beside { IsTrue result → inc ≡ pos 1 }
+    ensures some { IsTrue result → 0 < count }
+{
+    inc == 1 && 4 <= count
+}
+
+/// The numbers from a place on, each so far after the one before: neighbours at once where that is
+/// said, and one number again and again where that is nowhere.
 pub(crate) fn read_run<T: PackedType<N>, const N: usize>(
     numbers: &Packed<T, N>,
     place: u32,
     inc: i32,
+    at_once: bool,
     into: &mut [i64],
 )
+    requires beside { IsTrue at_once → inc ≡ pos 1 }
+    requires some { IsTrue at_once → 0 < length into.old }
     requires small { length into.old ≤ extent_limit }
     requires inside { (j : ℕ) → j < length into.old →
         IsInside (length numbers.now) (pos place +ℤ inc *ℤ pos j) }
     ensures { HasStepped numbers.now place inc (length into.old) into.new }
 {
-    if inc == 1 && 0 < into.len() {
+    if at_once {
         numbers.read_from(place as usize, into);
     } else if inc != 0 {
         read_steps(numbers, place, inc, into);
@@ -114,7 +178,8 @@ fn read_row<T: PackedType<N>, const N: usize>(
 {
     shape_laws();
     let place = place_of(triple, position);
-    read_run(numbers, place, inc_along(triple, 0), into);
+    let inc = inc_along(triple, 0);
+    read_run(numbers, place, inc, are_at_once(inc, into.len()), into);
 }
 
 /// How many whole rows lie side by side from a position on, and no more elements than are left: 0
@@ -159,12 +224,53 @@ fn read_rows<T: PackedType<N>, const N: usize>(
     let inc = inc_along(triple, 0);
     let step = inc_along(triple, 1);
     let place = place_of(triple, position);
+    let at_once = are_at_once(inc, width);
     for row in 0..rows as usize {
         let at = place_after(place, step, row);
         let begin = row * width;
         let end = begin + width;
-        read_run(numbers, at as u32, inc, &mut into[begin..end]);
+        read_run(numbers, at as u32, inc, at_once, &mut into[begin..end]);
     }
+}
+
+/// The window's elements in the four rows from a position on, side by side.
+fn read_four_rows<T: PackedType<N>, const N: usize>(
+    numbers: &Packed<T, N>,
+    triple: &Triple,
+    position: u32,
+    into: &mut [i64],
+)
+    requires count { length into.old ≡ 4 * get_or triple.now.dims 0 1 }
+    requires start { position % get_or triple.now.dims 0 1 ≡ 0 }
+    requires plane { (position / get_or triple.now.dims 0 1) % get_or triple.now.dims 1 1 + 4
+        ≤ get_or triple.now.dims 1 1 }
+    requires within { position + length into.old ≤ size_of triple.now.dims }
+    requires some { position < size_of triple.now.dims }
+    requires small { size_of triple.now.dims ≤ extent_limit }
+    requires reaches { Reaches triple.now (length numbers.now) }
+    ensures { HasRead triple.now numbers.now position (length into.old) into.new }
+{
+    shape_laws();
+    let width = size_along(triple, 0) as usize;
+    let inc = inc_along(triple, 0);
+    let step = inc_along(triple, 1);
+    let first = place_of(triple, position);
+    let second = place_after(first, step, 1) as u32;
+    let third = place_after(first, step, 2) as u32;
+    let fourth = place_after(first, step, 3) as u32;
+    let (a, rest) = into.split_at_mut(width);
+    let (b, rest) = rest.split_at_mut(width);
+    let (c, d) = rest.split_at_mut(width);
+    read_side_by_side(numbers, first, second, third, fourth, inc, a, b, c, d);
+}
+
+/// Whether so many rows of a window are read four at a time: where a step along them goes far, and
+/// there is enough of them.
+fn are_side_by_side(triple: &Triple, width: u32, rows: u32) -> bool
+    ensures { IsTrue result → 4 ≤ rows }
+{
+    let inc = inc_along(triple, 0);
+    4 <= rows && 16 <= width && inc != 0 && inc != 1
 }
 
 /// The first of the window's elements from a position on, and how many: whole rows, or what is left
@@ -189,6 +295,10 @@ fn read_part<T: PackedType<N>, const N: usize>(
     if rows == 0 {
         let run = run_length(width, position, into.len());
         read_row(numbers, triple, position, &mut into[..run]);
+        run
+    } else if are_side_by_side(triple, width, rows) {
+        let run = 4 * width as usize;
+        read_four_rows(numbers, triple, position, &mut into[..run]);
         run
     } else {
         let run = rows as usize * width as usize;

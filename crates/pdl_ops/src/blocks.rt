@@ -1,17 +1,15 @@
 //! An operator on two windows of as many elements, in blocks.
-ghost use Rattle.std.specs.Prelude.{◌≡◌, ◌+◌, ◌*◌, ◌≤◌, [], length, map, min, take, All, IfOk, OnOk};
+ghost use Rattle.std.specs.Prelude.{◌≡◌, ◌+◌, ◌*◌, ◌<◌, ◌≤◌, [], length, map, take, All, IfOk, OnOk};
 ghost use Rattle.std.specs.Result.{result_err};
 ghost use Rattle.pdl_elem.specs.Blocks.{pairwise, zero_at};
 ghost use Rattle.pdl_elem.specs.Numbers.{wrapped};
 ghost use Rattle.pdl_elem.specs.Operators.{value_of};
 ghost use Rattle.pdl_elem.specs.Types.{InRange, binary_result};
-ghost use Rattle.pdl_shape.specs.Shape.{size_of};
-ghost use Rattle.pdl_ops.specs.declared.operands.TheConstants.{BLOCK};
 ghost use Rattle.pdl_ops.specs.Answers.{Answers};
 ghost use Rattle.pdl_ops.specs.Elementwise.{operands_from, values_of};
 
 use crate::OpFault;
-use crate::operands::{BLOCK, read_operand};
+use crate::operands::{block_of, read_operand};
 use pdl_buf::{Packing, Strided, strided_dims};
 use pdl_elem::{BinaryOp, Ty, binary_all};
 use pdl_shape::elements_of;
@@ -73,25 +71,29 @@ pub(crate) fn values(
     let count = elements_of(strided_dims(b)) as usize;
     if count <= FEW {
         let mut room = [0; 3 * FEW];
-        values_within(op, ty, a, b, made, &mut room)
+        values_within(op, ty, a, b, made, FEW, &mut room)
     } else {
-        let mut room = vec![in alloc; 0; 3 * count.min(BLOCK)]?;
-        values_within(op, ty, a, b, made, &mut room)
+        let block = count.min(block_of(a).max(block_of(b)));
+        let mut room = vec![in alloc; 0; 3 * block]?;
+        values_within(op, ty, a, b, made, block, &mut room)
     }
 }
 
-/// What `values` answers, found block by block in a room for the values and the operands of one.
+/// What `values` answers, found in blocks of so many at most, in a room for the values and the
+/// operands of one.
 fn values_within(
     op: BinaryOp,
     ty: Ty,
     a: &Strided<'_>,
     b: &Strided<'_>,
     mut made: Packing,
+    block: usize,
     room: &mut [i64],
 ) -> Result<Packing, OpFault>
     requires paired { length a.now.elems ≡ length b.now.elems }
     requires empty { made ≡ record { ty = binary_result op ty ty; elems = [] } }
-    requires room { 3 * min (size_of b.now.dims) BLOCK ≤ length room.old }
+    requires some { 0 < block }
+    requires room { 3 * block ≤ length room.old }
     ensures value { let xs = map (wrapped ty) a.now.elems in
         let ys = map (wrapped ty) b.now.elems in
         Answers (λ made. made.elems) (values_of op ty xs ys) result }
@@ -101,7 +103,7 @@ fn values_within(
     let count = elements_of(strided_dims(b)) as usize;
     let mut done = 0;
     while done < count {
-        let size = (count - done).min(BLOCK);
+        let size = (count - done).min(block);
         let found = values_block(op, ty, a, b, done as u32, size, &mut room[..3 * size]);
         if let Err(place) = found {
             return Err(OpFault::DivideByZero {

@@ -3,7 +3,7 @@ ghost use Rattle.std.specs.Prelude.{◌≡◌, [], length, map, All, IfOk};
 ghost use Rattle.pdl_elem.specs.Types.{InRange};
 ghost use Rattle.pdl_ops.specs.Changes.{changed, changed_type};
 
-use crate::operands::{BLOCK, rewrap};
+use crate::operands::{block_of, rewrap};
 use pdl_buf::{Packing, Strided, strided_dims, strided_read, strided_type};
 use pdl_elem::{Ty, UnaryOp, unary_all};
 use pdl_shape::elements_of;
@@ -45,7 +45,7 @@ pub(crate) fn changed_elements(
     ensures count { IfOk result (λ made. length made.elems ≡ length a.now.elems) }
 {
     let count = elements_of(strided_dims(a)) as usize;
-    let mut block = vec![in alloc; 0; count.min(BLOCK)]?;
+    let mut block = vec![in alloc; 0; count.min(block_of(a))]?;
     let mut done = 0;
     while done < count {
         block.truncate(count - done);

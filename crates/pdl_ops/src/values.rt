@@ -1,9 +1,7 @@
 //! What an assignment writes (PDL::Ops, PDL::Broadcasting).
-ghost use Rattle.std.specs.Prelude.{◌≡◌, ◌≢◌, ◌+◌, ◌*◌, ◌≤◌, [], length, min, take, true, All, Ok, Err, IfOk, is_ok};
+ghost use Rattle.std.specs.Prelude.{◌≡◌, ◌≢◌, ◌+◌, ◌*◌, ◌<◌, ◌≤◌, [], length, take, true, All, Ok, Err, IfOk, is_ok};
 ghost use Rattle.pdl_buf.specs.Made.{IsMade, array_of};
 ghost use Rattle.pdl_elem.specs.Types.{InRange};
-ghost use Rattle.pdl_shape.specs.Shape.{size_of};
-ghost use Rattle.pdl_ops.specs.declared.operands.TheConstants.{BLOCK};
 ghost use Rattle.pdl_ops.specs.Answers.{Answers};
 ghost use Rattle.pdl_ops.specs.Parts.{part_values};
 ghost use Rattle.pdl_ops.specs.Values.{fits, values_for, new_values};
@@ -12,7 +10,7 @@ ghost use Rattle.pdl_ops.specs.declared.OpFault.TheVariants.{TooLarge};
 use crate::OpFault;
 use crate::blocks::FEW;
 use crate::in_parts::{first_divisor, value_laws, values_part};
-use crate::operands::BLOCK;
+use crate::operands::block_of;
 use pdl_buf::{Elements, Packing, Strided, stretched, strided_dims, strided_type};
 use pdl_elem::Ty;
 use pdl_lexemes::AssignOp;
@@ -77,17 +75,20 @@ fn part_within(
 }
 
 /// The values that a sign gives for the elements that stand there and as many new ones, of which no
-/// divisor is 0. They are found part by part in a room for one, and put into an empty packing.
+/// divisor is 0. They are found in parts of so many at most, in a room for one, and put into an empty
+/// packing.
 fn values_within(
     sign: AssignOp,
     old: &Strided<'_>,
     new: &Strided<'_>,
     mut made: Packing,
+    block: usize,
     room: &mut [i64],
 ) -> Result<Packing, AllocError>
     requires paired { length old.now.elems ≡ length new.now.elems }
     requires empty { made ≡ record { ty = old.now.ty; elems = [] } }
-    requires room { 3 * min (size_of new.now.dims) BLOCK ≤ length room.old }
+    requires some { 0 < block }
+    requires room { 3 * block ≤ length room.old }
     requires never { let wanted = new_values sign old.now.ty new.now.ty in
         is_ok (wanted old.now.elems new.now.elems) ≡ true }
     ensures value { let wanted = new_values sign old.now.ty new.now.ty in
@@ -98,7 +99,7 @@ fn values_within(
     let count = elements_of(strided_dims(new)) as usize;
     let mut done = 0;
     while done < count {
-        let size = (count - done).min(BLOCK);
+        let size = (count - done).min(block);
         part_within(sign, old, new, done as u32, size, &mut room[..3 * size]);
         made.extend(&room[..size])?;
         done += size;
@@ -130,10 +131,11 @@ fn new_values(
     let empty = nothing(alloc, keeping, ty, count)?;
     let made = if count <= FEW {
         let mut room = [0; 3 * FEW];
-        values_within(sign, old, new, empty, &mut room)?
+        values_within(sign, old, new, empty, FEW, &mut room)?
     } else {
-        let mut room = vec![in alloc; 0; 3 * count.min(BLOCK)]?;
-        values_within(sign, old, new, empty, &mut room)?
+        let block = count.min(block_of(old).max(block_of(new)));
+        let mut room = vec![in alloc; 0; 3 * block]?;
+        values_within(sign, old, new, empty, block, &mut room)?
     };
     Ok(Elements::packed(made))
 }

@@ -4,8 +4,9 @@ use Rattle.std.specs.List.{range_with_len}
 use Rattle.std.proofs.lemmas.Bool.{eq-eqb, ne_eqb}
 use Rattle.std.proofs.lemmas.Bool.Decides.{eqb_tells}
 use Rattle.std.proofs.lemmas.List.{get_or-map, ext_get_or}
+use Rattle.std.proofs.lemmas.List.Elements.{All-get_or}
 use Rattle.std.proofs.lemmas.List.FromFn.{length-map-range_with_len, get_or-map-range_with_len}
-use Rattle.pdl_shape.specs.Places.{places_of as parent_places}
+use Rattle.pdl_shape.specs.Places.{IsBelow, places_of as parent_places}
 use Rattle.pdl_shape.specs.Shape.{size_of}
 use Rattle.pdl_shape.specs.Triple.{Triple}
 use Rattle.pdl_world.specs.Formula.{source}
@@ -82,6 +83,16 @@ over_known facts rs c p i k h b m =
 own_is : (ds : List ℕ) (y : Layout) (i : ℕ) → i < size_of ds → own_at y i ≡ entry (own_places ds y) i
 own_is ds (Plan p) i h = sym (get_or-map-range_with_len Some 0 (size_of ds) i i None h (omega arith))
 own_is ds (Choice c) i h = refl
+
+-- and they lie in the parent
+pub own_below : (facts : RowLaws) → (rs : Rows) (b p : ℕ) (t : Trans) (y : Layout) → IsStill rs → has rs b ≡ true → (row_at rs b).base ≡ b → (row_at rs b).origin ≡ View p t y
+    → (i : ℕ) → i < size_of (row_at rs b).triple.dims → IsBelow (size_of (row_at rs p).triple.dims) (own_at y i)
+own_below facts rs b p t y s h e o i l =
+    let a : IsViewAt rs b p t y = facts.seen.view_at rs s b p t y h o in
+    let w : IsOwn (row_at rs p).triple (parent_places (row_at rs b).triple.dims (row_at rs p).triple.dims (source t (row_at rs p).triple.dims)) (own_places (row_at rs b).triple.dims y) (row_at rs b).triple.dims = own_view facts rs b p t y (over t (row_at rs p).triple) s a e refl a.derived.base_is a.derived.laid in
+    let len : length (own_places (row_at rs b).triple.dims y) ≡ size_of (row_at rs b).triple.dims = ap (λ (xs : List (Option ℕ)). length xs) (sym w.places) ∙ length-map-range_with_len _ 0 (size_of (row_at rs b).triple.dims) in
+    subst (λ (q : Option ℕ). IsBelow (size_of (row_at rs p).triple.dims) q) (sym (own_is (row_at rs b).triple.dims y i l))
+    (All-get_or (IsBelow (size_of (row_at rs p).triple.dims)) (own_places (row_at rs b).triple.dims y) i None (omega (arith, len)) w.within)
 
 -- the places that are found over the parent are the view's
 pub found_places : (facts : RowLaws) → (rs : Rows) (b p n : ℕ) (t : Trans) (y : Layout) (known : Option (List (Option ℕ))) (u : Triple) → IsStill rs → has rs b ≡ true → (row_at rs b).base ≡ b → (row_at rs b).origin ≡ View p t y → n ≡ size_of (row_at rs b).triple.dims → placed_by known u ≡ places_seen rs p

@@ -1,7 +1,7 @@
 //! Places that are gathered for a view.
 ghost use Rattle.std.specs.List.{range_with_len};
-ghost use Rattle.std.specs.Prelude.{◌≡◌, ℕ, ◌+◌, ◌<◌, ◌≤◌, IsTrue, true, length, map, option_and_then, All, IfOk};
-ghost use Rattle.pdl_shape.specs.Places.{AllBelow};
+ghost use Rattle.std.specs.Prelude.{◌≡◌, ℕ, ◌+◌, ◌<◌, ◌≤◌, IsTrue, true, false, length, map, option_and_then, All, IfOk};
+ghost use Rattle.pdl_shape.specs.Places.{AllBelow, IsBelow};
 ghost use Rattle.pdl_shape.specs.Shape.{size_of};
 ghost use Rattle.pdl_nodes.specs.Assigned.{entry};
 ghost use Rattle.pdl_nodes.specs.Families.{has_repeats, is_among};
@@ -59,8 +59,8 @@ fn are_few(positions: usize, count: u32) -> bool {
     positions <= 256 && 16 * positions * positions <= count as usize
 }
 
-/// Whether two positions have the same place: a few by comparing them, and more in one pass from
-/// the last position on, over a list as long as the root.
+/// Whether two positions have the same place: a few by comparing them, none where the places rise,
+/// and others in one pass from the last position on, over a list as long as the root.
 pub fn has_twice(alloc: Global, places: &[Option<u32>], count: u32) -> Result<bool, NoMemory>
     requires { AllBelow count places.now }
     ensures { IfOk result (λ f. f ≡ has_repeats places.now) }
@@ -68,7 +68,26 @@ pub fn has_twice(alloc: Global, places: &[Option<u32>], count: u32) -> Result<bo
     if are_few(places.len(), count) {
         return Ok(has_twice_of_few(places));
     }
+    if all_rise(places) {
+        return Ok(false);
+    }
     has_twice_of_many(alloc, places, count)
+}
+
+/// Whether each position has a place, past that of the position before it, as those of a mask do.
+fn all_rise(places: &[Option<u32>]) -> bool
+    ensures { IsTrue result → has_repeats places.now ≡ false }
+{
+    let mut least = u32::MAX;
+    let mut first = places.len();
+    while first > 0 {
+        first -= 1;
+        match places[first] {
+            Some(at) if at < least => least = at,
+            _ => return false,
+        }
+    }
+    true
 }
 
 /// Whether two positions have the same place, in one pass from the last position on.
@@ -119,25 +138,8 @@ fn place_through(
     }
 }
 
-/// Whether each of these places lies below a size.
-fn are_below(size: u32, places: &[Option<u32>]) -> bool
-    ensures { IsTrue result → AllBelow size places.now }
-{
-    for place in places {
-        match place {
-            Some(at) => {
-                if *at >= size {
-                    return false;
-                }
-            }
-            None => {}
-        }
-    }
-    true
-}
-
 /// Whether the root's places of a view are those that it picks: it picks them from an array that
-/// shows each place of a root at the position of the same number, and all are there.
+/// shows each place of a root at the position of the same number.
 fn picks_places(
     own: &[Option<u32>],
     count: u32,
@@ -145,7 +147,8 @@ fn picks_places(
     shown: &Placement,
     size: u32,
 ) -> bool
-    requires { size ≡ size_of shown.now.dims }
+    requires shown { size ≡ size_of shown.now.dims }
+    requires within { (p : ℕ) → p < count → IsBelow size (entry own.now p) }
     ensures { IsTrue result → own.now ≡ map (λ p.
         option_and_then (entry (placed_by known.now shown.now)) (entry own.now p))
         (range_with_len 0 count) }
@@ -156,7 +159,7 @@ fn picks_places(
     if own.len() != count as usize {
         return false;
     }
-    shown.is_identity() && are_below(size, own)
+    shown.is_identity()
 }
 
 /// The root's places of a view over an array that a triple shows over a base.
@@ -168,7 +171,8 @@ pub fn places_through(
     triple: &Triple,
     size: u32,
 ) -> Result<Vec<Option<u32>>, NoMemory>
-    requires { size ≡ size_of triple.now.dims }
+    requires shown { size ≡ size_of triple.now.dims }
+    requires within { (p : ℕ) → p < count → IsBelow size (own_at layout.now p) }
     ensures { IfOk result (λ v. v.items ≡ map (λ p.
         option_and_then (entry (placed_by known.now triple.now)) (own_at layout.now p))
         (range_with_len 0 count)) }

@@ -198,41 +198,8 @@ fn set_products(
 }
 
 /// Sets each number to the sum of the products of its two rows, in words that wrap. On each side a
-/// row stands so far after the one before.
-fn set_each_sum(
-    sizes: Sizes,
-    left_step: usize,
-    right_step: usize,
-    left: &[i64],
-    right: &[i64],
-    sums: &mut [i64],
-)
-    requires height { sizes.height ≡ 1 }
-    requires width { sizes.width ≡ 1 }
-    requires left_inside { (j : ℕ) → j < length sums.old →
-        j * left_step + sizes.left_depth ≤ length left.now }
-    requires right_inside { (j : ℕ) → j < length sums.old →
-        j * right_step + sizes.right_depth ≤ length right.now }
-    requires left_deep { (k : ℕ) → k < sizes.depth → cut sizes.left_depth k < sizes.left_depth }
-    requires right_deep { (k : ℕ) → k < sizes.depth → cut sizes.right_depth k < sizes.right_depth }
-    requires left_small { length left.now ≤ extent_limit }
-    requires right_small { length right.now ≤ extent_limit }
-    ensures count { length sums.new ≡ length sums.old }
-    ensures sums { (j : ℕ) → j < length sums.old →
-        let left_row = take sizes.left_depth (drop (j * left_step) left.now) in
-        let right_row = take sizes.right_depth (drop (j * right_step) right.now) in
-        get_or sums.new j (pos 0) ≡ int_wrap w64 (sum_at sizes left_row right_row sizes.depth 0 0) }
-{
-    for j in 0..sums.len() {
-        let left_start = j * left_step;
-        let right_start = j * right_step;
-        let left_row = &left[left_start..left_start + sizes.left_depth];
-        let right_row = &right[right_start..right_start + sizes.right_depth];
-        set_row(sizes, 0, left_row, right_row, &mut sums[j..j + 1]);
-    }
-}
-
-/// The same. Rows of which one number each is used have products as their sums.
+/// row stands so far after the one before. Rows of which one number each is used have products as
+/// their sums.
 fn set_sums(
     sizes: Sizes,
     left_step: usize,
@@ -259,8 +226,14 @@ fn set_sums(
 {
     if sizes.depth == 1 {
         set_products(left_step, right_step, left, right, sums);
-    } else {
-        set_each_sum(sizes, left_step, right_step, left, right, sums);
+        return;
+    }
+    for j in 0..sums.len() {
+        let left_start = j * left_step;
+        let right_start = j * right_step;
+        let left_row = &left[left_start..left_start + sizes.left_depth];
+        let right_row = &right[right_start..right_start + sizes.right_depth];
+        set_row(sizes, 0, left_row, right_row, &mut sums[j..j + 1]);
     }
 }
 

@@ -28,6 +28,7 @@ pub mod Leaving
 pub mod Halves
 pub mod Ended
 pub mod Begun
+mod NoFlows
 pub mod Unmoved
 pub mod Foreseen
 pub mod InBlocks

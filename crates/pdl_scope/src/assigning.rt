@@ -159,7 +159,9 @@ impl Scope {
     }
 
     /// What `assign_alone` does, block by block. All of the right side is looked at before the first
-    /// write, and no memory is wanted.
+    /// write, and no memory is wanted. It stays a call: in line its rooms for a block would make the
+    /// frame of each assignment large.
+    #[inline(never)]
     fn assign_in_blocks<L: Ledger>(
         &mut self,
         sign: AssignOp,
@@ -240,7 +242,8 @@ impl Scope {
     }
 
     /// What `assign` does with a plan: the assignment, and those by which flows follow it. They and
-    /// all notices are found before one value is written.
+    /// all notices are found before one value is written. It stays a call, as `assign_in_blocks` does.
+    #[inline(never)]
     fn assign_planned<L: Ledger, M: Ledger>(
         &mut self,
         sign: AssignOp,
@@ -421,6 +424,34 @@ fn written<L: Ledger>(
     if let Some(found) = written_at_once(alloc, engine, sign, target, value, keeping) {
         return found;
     }
+    written_when_ready(alloc, engine, sign, target, value, keeping, steps)
+}
+
+/// The same where not both arrays can be lent already: they are made so first. It stays a call: in
+/// line its windows would be cleared for those that can.
+#[inline(never)]
+fn written_when_ready<L: Ledger>(
+    alloc: Global,
+    engine: &mut Engine,
+    sign: AssignOp,
+    target: ArrayId,
+    value: ArrayId,
+    keeping: Keeping,
+    steps: &mut Steps<L>,
+) -> Result<Elements, ScopeFault>
+    requires target { IsLive engine.old.world target }
+    requires value { IsLive engine.old.world value }
+    ensures same { SameArrays engine.old engine.new }
+    ensures stay { StayFresh engine.old engine.new }
+    ensures costs { ReadsNoDearer engine.old engine.new }
+    ensures fresh { OnOk result (is_fresh engine.new target ≡ true) }
+    ensures value { let a = arrays_of engine.new in
+        AnswersAs (λ vs. vs) (values_for sign (array_in a target) (array_in a value)) result }
+    ensures made { let w = engine.new.world in
+        IfOk result (λ vs. IsMade (ty_in w target) (dims_in w target) vs) }
+    ensures counted { let e = engine.old in
+        steps.new ≤ steps.old + (read_steps e target + read_steps e value) }
+{
     ready_two(engine, target, value, steps)?;
     let (into, from) = (engine.lend(target), engine.lend(value));
     let values = values_for(alloc, sign, &into, &from, keeping)?;

@@ -336,12 +336,17 @@ pub(crate) fn let_all_go<L: Ledger>(
     }
 }
 
-/// Whether one of these arrays has a flow's root as its root.
+/// Whether one of these arrays has a flow's root as its root. Where there are no flows, none of the
+/// arrays is looked up.
+#[tactic(auto, using(crate::proofs::NoFlows::no_flow))]
 fn have_flow(engine: &Engine, flows: &[KeptFlow], ids: &[ArrayId]) -> bool
     requires rising { RootsRise flows.now }
     requires live { AreLive engine.now.world ids.now }
     ensures { result ≡ have_flow engine.now.world flows.now ids.now }
 {
+    if flows.is_empty() {
+        return false;
+    }
     for id in ids {
         if is_flow(flows, engine.root(*id)) {
             return true;

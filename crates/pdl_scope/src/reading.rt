@@ -25,8 +25,31 @@ use std::alloc::{AllocError, Global};
 use std::sync::ledger::Ledger;
 
 impl Scope {
-    /// The elements of an array, copied.
+    /// The elements of an array, copied. One that can be lent already is looked up once.
     pub fn numbers<L: Ledger>(
+        &mut self,
+        id: ArrayId,
+        steps: &mut Steps<L>,
+    ) -> Result<Vec<i64>, AllocError>
+        requires { IsLive self.old.arrays.world id }
+        ensures items { IfOk result (λ ns. ns.items ≡ elements self.old.arrays.world id) }
+        ensures in_range { let ty = ty_in self.old.arrays.world id in
+            IfOk result (λ ns. All (InRange ty) ns.items) }
+        ensures count { let dims = dims_in self.old.arrays.world id in
+            IfOk result (λ ns. length ns.items ≡ size_of dims) }
+        ensures same { OnlyReads self.old self.new }
+        ensures counted { steps.new ≤ steps.old + read_steps (engine_of self.old) id }
+    {
+        if let Some(shown) = self.engine.try_lend(id) {
+            return all_shown(self.alloc, &shown);
+        }
+        self.numbers_when_ready(id, steps)
+    }
+
+    /// The same where the array can't be lent already: it is made so first. It stays a call: in line
+    /// its window would be cleared for one that can.
+    #[inline(never)]
+    fn numbers_when_ready<L: Ledger>(
         &mut self,
         id: ArrayId,
         steps: &mut Steps<L>,

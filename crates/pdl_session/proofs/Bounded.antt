@@ -1,9 +1,12 @@
 -- What statements move at most, from what their parts move.
 use Rattle.std.proofs.Common.{◌≡◌, ℕ, ℤ, ◌+◌, ◌≤◌, Bool, true, false, List, [], ◌∷◌, Option, Some, None, Result, Ok, Err, refl, sym, ap, subst, ◌∙◌, arith}
 use Rattle.std.specs.Option.{option_map_or}
-use Rattle.std.specs.Prelude.{pos, not, map, Box, IfOk, IfSome, OnOk, length}
+use Rattle.std.specs.Prelude.{pos, not, map, Box, IfOk, IfSome, OnOk, length, ◌==◌}
+use Rattle.std.specs.Bool.{then_some}
 use Rattle.std.specs.Ordering.{int_eq}
 use Rattle.std.specs.Global.{Global}
+use Rattle.std.proofs.lemmas.Bool.{eqb-true}
+use Rattle.std.proofs.lemmas.List.{nil_from_length}
 use Rattle.std.proofs.lemmas.List.Sums.{count_by-le-length}
 use Rattle.pdl_numbers.specs.Typed.{count_moved}
 use Rattle.pdl_buf.specs.declared.made.Made.{Made}
@@ -31,12 +34,24 @@ use Rattle.pdl_machine.specs.Flows.{affected}
 use Rattle.pdl_world.specs.Paths.{root_of}
 use Rattle.pdl_session.proofs.Affected.{late_affected}
 use Rattle.pdl_session.proofs.Grown.{grown_seen}
-use Rattle.pdl_session.specs.Bounds.{AssignsPlainly, EvaluatesPlainly, IsBare, LeavesReadable, MakesRoot, MovesPlainly, plain_count}
+use Rattle.pdl_session.specs.Bounds.{AssignsPlainly, EvaluatesPlainly, IsBare, LeavesReadable, MakesRoot, MovesPlainly, plain_count, warm_after}
 
 -- a target without views is a bare name
 pub no_views_of : (vs : List ViewCall) → map view_of vs ≡ [] → vs ≡ []
 no_views_of [] none = refl
 no_views_of (v ∷ vs) none = absurd (cc)
+
+-- the array that is noted of a target is what is warm after it
+pub bare_noted : {T : Type 0} (r : Result T ScopeFault) (vs : List ViewCall) (x : List ℕ) (sign : AssignOp) (e : Tree) (old mid : Scope) (before now to : ℕ) (is_bare : Bool) (noted : Option ℕ)
+    → is_bare ≡ (length vs == 0) → (vs ≡ [] → IsBare x old mid before now (Ok to)) → noted ≡ then_some is_bare to → OnOk r (noted ≡ warm_after old (assign x (map view_of vs) sign e))
+bare_noted (Ok z) [] x sign e old mid before now to b noted is bare then = then ∙ ap (λ (t : Bool). then_some t to) is ∙ sym (bare refl).is
+bare_noted (Ok z) (v ∷ vs) x sign e old mid before now to b noted is bare then =
+    then ∙ ap (λ (t : Bool). then_some t to) (is ∙ some_views (length (v ∷ vs) == 0) refl)
+  where
+    some_views : (t : Bool) → (length (v ∷ vs) == 0) ≡ t → t ≡ false
+    some_views false h = refl
+    some_views true h = absurd (let none : v ∷ vs ≡ [] = nil_from_length (v ∷ vs) (eqb-true (length (v ∷ vs)) 0 h) in cc)
+bare_noted (Err f) vs x sign e old mid before now to b noted is bare then = tt
 
 no_views : (w : World) → KeepsViews w w
 no_views w v is = is

@@ -378,7 +378,7 @@ in_place present (Ok t) st old mid new o n gone ran = by_effect (effect present 
 
 -- what a session keeps after a statement
 pub at_rest : {T : Type 0} → Laws → (present : List Bool) (r : Result T ScopeFault) (st : StatementTree) (warm assigned now : Option ℕ) (old mid new : Scope) (o n : List ℕ) → LetsGo old mid new → IsSwept (machine new) → IsSpelled (tidy (machine new)) → IfSome warm (IsKeptWarm old)
-    → assigned ≡ warm_after old st → now ≡ (if is_ok r then assigned else warm) → Runs (effect present (machine old) st) old mid o n r → OnOk r (LeavesReadable st old mid) → IsAtRest new now
+    → OnOk r (assigned ≡ warm_after old st) → now ≡ (if is_ok r then assigned else warm) → Runs (effect present (machine old) st) old mid o n r → OnOk r (LeavesReadable st old mid) → IsAtRest new now
 at_rest laws present (Ok t) st warm assigned now old mid new o n h swept spelled rest at is ran readable = record {
   swept = swept;
   spelled = spelled;
@@ -390,7 +390,7 @@ at_rest laws present (Err f) st warm assigned now old mid new o n h swept spelle
   kept_warm = subst (λ b. IfSome b (IsKeptWarm new)) (sym is) (refused_warm laws old mid new warm h ran.1.grown rest);
 }
 
-pub warm_ok : {T : Type 0} (r : Result T ScopeFault) (assigned before now wanted : Option ℕ) → now ≡ (if is_ok r then assigned else before) → assigned ≡ wanted → OnOk r (now ≡ wanted)
+pub warm_ok : {T : Type 0} (r : Result T ScopeFault) (assigned before now wanted : Option ℕ) → now ≡ (if is_ok r then assigned else before) → OnOk r (assigned ≡ wanted) → OnOk r (now ≡ wanted)
 warm_ok (Ok t) assigned before now wanted is at = is ∙ at
 warm_ok (Err f) assigned before now wanted is at = tt
 

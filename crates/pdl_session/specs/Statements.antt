@@ -19,8 +19,9 @@ use Rattle.pdl_session.specs.Moves.{assign_steps, cut_steps, reshape_steps, valu
 
 -- A binding, a flow and a print move what their expression takes; an assignment, a cut and other
 -- dimensions what they do besides, an assignment with the flows that follow it; a dump reads each
--- root, unless it is refused before. No other statement takes a step. Where a fault refuses a statement, the arrays count
--- that came until then, and where memory ran out those that were to come.
+-- root, unless it is refused before. No other statement takes a step. Where a fault refuses a
+-- statement, the arrays count that came until then, and where memory ran out those that were to
+-- come.
 abbrev pub MovesByForm : StatementTree → (old : Scope) → (before after : ℕ) → Type 0
 MovesByForm (bind x e false) old before after =
     MovesUpTo (named_steps old e) old (evaluated old.names old.arrays e) before after

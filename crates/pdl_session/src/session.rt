@@ -16,7 +16,7 @@ ghost use Rattle.pdl_session.specs.Watching.{AreServed};
 
 use crate::fault::{StepFault, WatcherFailed};
 use crate::news::News;
-use crate::statement::{bare_target, run};
+use crate::statement::run;
 use crate::watching::{finish, hear};
 use pdl_buf::Steps;
 use pdl_engine::ArrayId;
@@ -215,9 +215,18 @@ impl Session {
         cost_laws();
         self.calls = self.calls.saturating_add(1);
         self.scope.in_order();
-        let assigned = bare_target(&self.scope, statement);
+        let mut assigned = None;
         let scope = &mut self.scope;
-        let ran = run(scope, statement, number, watchers, out, steps, runs);
+        let ran = run(
+            scope,
+            statement,
+            number,
+            watchers,
+            &mut assigned,
+            out,
+            steps,
+            runs,
+        );
         self.scope.in_order();
         self.scope.let_go(steps);
         self.scope.whole();

@@ -1,6 +1,6 @@
 //! What each statement does.
 ghost use Rattle.std.specs.Option.{option_map_or};
-ghost use Rattle.std.specs.Prelude.{◌≡◌, ◌≤◌, ◌+◌, [], ◌++◌, length, map, All, Ok, OnOk, IfOk};
+ghost use Rattle.std.specs.Prelude.{◌≡◌, ◌≤◌, ◌+◌, [], ◌++◌, length, map, All, None, Ok, OnOk, IfOk};
 ghost use Rattle.pdl_syntax.specs.TreeOf.{tree_of};
 ghost use Rattle.pdl_syntax.specs.StatementTree.{statement_of, assign, bind_list as bind_list', sever as sever', show as show', view_of};
 ghost use Rattle.pdl_syntax.specs.WellMade.{AreArrays, AreArgArrays, IsWellMade};
@@ -41,7 +41,7 @@ use pdl_engine::ArrayId;
 use pdl_lexemes::AssignOp;
 use pdl_machine::{Fault, watching_laws};
 use pdl_scope::{Scope, ScopeFault, cost_laws};
-use pdl_syntax::{Expr, Statement, Target, calls_are_trees};
+use pdl_syntax::{Expr, Statement, Target, ViewCall, calls_are_trees};
 use pdl_watch::{Notice, Watcher};
 use pdl_world::growth_laws;
 use std::alloc::AllocError;
@@ -160,13 +160,15 @@ fn bind_list<L: Ledger>(
 /// answer is what watchers are to be told, by slots. At most one formula is evaluated for each flow
 /// that reads, directly or through flows, an array of the target's root. The assignment takes, beside
 /// what both expressions take, at most what it takes to read each array that a slot is attached to, a
-/// step for each element of the target, and what the flows take that follow.
+/// step for each element of the target, and what the flows take that follow. The target's array is
+/// noted where it is a bare name's.
 fn assign_value<L: Ledger, M: Ledger>(
     scope: &mut Scope,
     to: &Target,
     sign: AssignOp,
     value: &Expr,
     number: u64,
+    bare: &mut Option<ArrayId>,
     steps: &mut Steps<L>,
     runs: &mut Steps<M>,
 ) -> Result<Vec<Vec<Notice>>, ScopeFault>
@@ -192,12 +194,18 @@ fn assign_value<L: Ledger, M: Ledger>(
     ensures readable { let place = map view_of to.now.views.items in
         let statement = assign to.now.name place sign (tree_of value.now) in
         OnOk result (LeavesReadable statement scope.old scope.new) }
+    ensures bare { let place = map view_of to.now.views.items in
+        let statement = assign to.now.name place sign (tree_of value.now) in
+        OnOk result (bare.new ≡ warm_after scope.old statement) }
 {
     watching_laws();
     growth_laws();
     cost_laws();
     scope.in_order();
+    let views: &[ViewCall] = &to.views;
+    let is_bare = views.is_empty();
     let to = assigned_to(scope, to, steps)?;
+    *bare = is_bare.then_some(to);
     scope.in_order();
     let from = eval(scope, value, steps)?;
     scope.in_order();
@@ -238,33 +246,24 @@ fn print_text(text: &[u8], out: &mut Vec<u8>) -> Result<(), AllocError>
     Ok(out.push(b'\n')?)
 }
 
-/// The array of the bare name that a statement assigns to, if it does.
-pub fn bare_target(scope: &Scope, statement: &Statement) -> Option<ArrayId>
-    ensures { result ≡ warm_after scope.now (statement_of statement.now) }
-{
-    match statement {
-        Statement::Assign { target, .. } if target.views.is_empty() => {
-            scope.number_of(&target.name)
-        }
-        _ => None,
-    }
-}
-
 /// Runs one statement, and answers what watchers are to hear of it; which slots have one decides
-/// what can be attached. Where it is refused, names and `out` are as they were, be it by a fault or
-/// by being out of memory; new arrays may have come.
+/// what can be attached. The array of a bare name that it assigns to is noted. Where it is refused,
+/// names and `out` are as they were, be it by a fault or by being out of memory; new arrays may have
+/// come.
 #[tactic(auto, using(crate::proofs::Statements::cut_front))]
 pub fn run<W: Watcher, L: Ledger, M: Ledger>(
     scope: &mut Scope,
     statement: &Statement,
     number: u64,
     watchers: &Vec<Option<W>>,
+    bare: &mut Option<ArrayId>,
     out: &mut Vec<u8>,
     steps: &mut Steps<L>,
     runs: &mut Steps<M>,
 ) -> Result<News, ScopeFault>
     requires made { IsWellMade (statement_of statement.now) }
     requires few { length watchers.now.items ≤ slots_limit }
+    requires none { bare.old ≡ None }
     ensures runs { let present = present_in (slots_by W.seen watchers.now.items) in
         let wanted = effect present (machine scope.old) (statement_of statement.now) in
         Runs wanted scope.old scope.new out.old.items out.new.items result }
@@ -279,11 +278,13 @@ pub fn run<W: Watcher, L: Ledger, M: Ledger>(
         MovesPlainly statement scope.old scope.new steps.old steps.new }
     ensures readable { let statement = statement_of statement.now in
         OnOk result (LeavesReadable statement scope.old scope.new) }
+    ensures bare { let statement = statement_of statement.now in
+        OnOk result (bare.new ≡ warm_after scope.old statement) }
 {
     let mark = out.len();
     let mut news = News::Nothing;
     match perform(
-        scope, statement, number, watchers, &mut news, out, steps, runs,
+        scope, statement, number, watchers, &mut news, bare, out, steps, runs,
     ) {
         Ok(()) => Ok(news),
         Err(fault) => {
@@ -293,15 +294,16 @@ pub fn run<W: Watcher, L: Ledger, M: Ledger>(
     }
 }
 
-/// Does what a statement says, and puts what watchers are to hear in place of nothing. A part of
-/// its text may stand in `out` where it is refused. It moves what the statement's form says at
-/// most.
+/// Does what a statement says, and puts what watchers are to hear in place of nothing, and the array
+/// of a bare name that it assigns to in place of none. A part of its text may stand in `out` where it
+/// is refused. It moves what the statement's form says at most.
 fn perform<W: Watcher, L: Ledger, M: Ledger>(
     scope: &mut Scope,
     statement: &Statement,
     number: u64,
     watchers: &Vec<Option<W>>,
     news: &mut News,
+    bare: &mut Option<ArrayId>,
     out: &mut Vec<u8>,
     steps: &mut Steps<L>,
     runs: &mut Steps<M>,
@@ -309,6 +311,7 @@ fn perform<W: Watcher, L: Ledger, M: Ledger>(
     requires made { IsWellMade (statement_of statement.now) }
     requires few { length watchers.now.items ≤ slots_limit }
     requires nothing { news.old ≡ Nothing }
+    requires none { bare.old ≡ None }
     ensures performs { let present = present_in (slots_by W.seen watchers.now.items) in
         let wanted = effect present (machine scope.old) (statement_of statement.now) in
         Performs wanted scope.old scope.new out.old.items out.new.items result }
@@ -323,6 +326,8 @@ fn perform<W: Watcher, L: Ledger, M: Ledger>(
         MovesPlainly statement scope.old scope.new steps.old steps.new }
     ensures readable { let statement = statement_of statement.now in
         OnOk result (LeavesReadable statement scope.old scope.new) }
+    ensures bare { let statement = statement_of statement.now in
+        OnOk result (bare.new ≡ warm_after scope.old statement) }
 {
     match statement {
         Statement::Bind {
@@ -337,7 +342,7 @@ fn perform<W: Watcher, L: Ledger, M: Ledger>(
         } => bind_severed(scope, name, value, steps),
         Statement::BindList { names, value } => bind_list(scope, names, value, steps),
         Statement::Assign { target, op, value } => {
-            let all = assign_value(scope, target, *op, value, number, steps, runs)?;
+            let all = assign_value(scope, target, *op, value, number, bare, steps, runs)?;
             *news = News::Notices(all);
             Ok(())
         }

@@ -1,5 +1,5 @@
 //! What an assignment writes to.
-ghost use Rattle.std.specs.Prelude.{◌≡◌, ◌+◌, [], false, Ok, map, All, IfOk};
+ghost use Rattle.std.specs.Prelude.{◌≡◌, ◌+◌, [], ◌∷◌, false, Ok, map, All, IfOk};
 ghost use Rattle.pdl_syntax.specs.Tree.{Tree, call};
 ghost use Rattle.pdl_syntax.specs.WellMade.{AreArgArrays};
 ghost use Rattle.pdl_syntax.specs.StatementTree.{view_of};
@@ -15,6 +15,7 @@ ghost use Rattle.pdl_scope.specs.Scope.{engine_of, machine, Grows};
 ghost use Rattle.pdl_session.specs.Bounds.{IsBare};
 ghost use Rattle.pdl_session.specs.Came.{evaluated};
 ghost use Rattle.pdl_session.specs.Costs.{argued_steps, named_steps, EvaluatesWithin};
+ghost use Rattle.pdl_session.specs.declared.given.Given.TheVariants.{Array};
 
 use crate::call::call;
 use crate::eval::take;
@@ -24,6 +25,7 @@ use pdl_engine::ArrayId;
 use pdl_machine::Fault;
 use pdl_scope::{Scope, ScopeFault, cost_laws};
 use pdl_syntax::{Target, ViewCall};
+use std::alloc::{AllocError, Global};
 use std::sync::ledger::Ledger;
 
 /// The array that an assignment writes to, with `FlowTarget` where its root is a flow's. A bare
@@ -85,6 +87,15 @@ fn target<L: Ledger>(
     Ok(id)
 }
 
+/// An array alone, in a list that has room for so many arguments behind it.
+fn alone<'a>(alloc: Global, id: ArrayId, more: usize) -> Result<Vec<Given<'a>>, AllocError>
+    ensures items { IfOk result (λ first. first.items ≡ Array id ∷ []) }
+{
+    let mut first = Vec::with_capacity(alloc, more.saturating_add(1))?;
+    first.push(Given::Array(id))?;
+    Ok(first)
+}
+
 /// The call of a view word on the array that a tree gave, which is its first argument. To make that
 /// array ready, and what the others take, pays for it.
 #[tactic(auto, using(crate::proofs::Facts::grows_trans))]
@@ -109,7 +120,7 @@ fn call_on<L: Ledger>(
         let late = evaluated s.names a called in
         EvaluatesWithin most s scope.new late steps.old steps.new result }
 {
-    let first = Vec::from_array(scope.alloc(), [Given::Array(id)])?;
+    let first = alone(scope.alloc(), id, view.args.len())?;
     let given = take(scope, first, &view.args, steps)?;
     call(scope, &view.method, &given, steps)
 }

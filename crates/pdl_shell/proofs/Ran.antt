@@ -1,15 +1,19 @@
 -- What running a statement leaves, by what the session answers.
-use Rattle.std.proofs.Common.{◌≡◌, ℕ, List, [], Result, Ok, Err, ◌∙◌, subst}
+use Rattle.std.proofs.Common.{◌≡◌, ℕ, Bool, List, [], Result, Ok, Err, ap, refl, ◌∙◌, subst}
 use Rattle.std.specs.Prelude.{OnOk, IfErr}
 use Rattle.pdl_watch.specs.Slots.{Slots, OneMissed}
 use Rattle.pdl_machine.specs.declared.fault.Fault.{Fault}
+use Rattle.pdl_machine.specs.Run.{step_read}
 use Rattle.pdl_machine.specs.State.{State}
+use Rattle.pdl_machine.specs.Watches.{Watches}
+use Rattle.pdl_syntax.specs.StatementTree.{StatementTree}
 use Rattle.pdl_machine.specs.Step.{Done}
 use Rattle.pdl_session.specs.Faults.{UnlessWatcher}
 use Rattle.pdl_session.specs.Watching.{AreServed, HasDone, StopsStep, IsRefusal}
 use Rattle.pdl_session.specs.declared.fault.StepFault.{StepFault}
 use Rattle.pdl_session.specs.declared.fault.StepFault.TheVariants.{Script, Watcher, NoMemory}
 use Rattle.pdl_shell.specs.Ran.{IsKept, Leaves, AreServedAfter}
+use Rattle.pdl_shell.specs.Unread.{IsFault}
 
 kept_by : (e : StepFault) (state : State) (slots : Slots) (now : State) (old_text text : List ℕ) (slots_now : Slots) → old_text ≡ []
     → UnlessWatcher e (now ≡ state) → UnlessWatcher e (text ≡ old_text) → UnlessWatcher e (slots_now ≡ slots)
@@ -57,3 +61,17 @@ watcher_refused e is wanted slots now refusal = subst (λ (x : StepFault). IsRef
 pub memory_refused : (e : StepFault) → e ≡ NoMemory → (slots now : Slots) (state state_now : State) (text : List ℕ)
     → UnlessWatcher e (IsKept state slots state_now text now) → IsKept state slots state_now text now
 memory_refused e is slots now state state_now text kept = subst (λ (x : StepFault). UnlessWatcher x (IsKept state slots state_now text now)) is kept
+
+-- what a text leaves that is no statement: nothing is run
+pub unread_leaves : (e : StepFault) (number : ℕ) (present : List Bool) (read : Result StatementTree Fault) (state : State) (slots : Slots) (text : List ℕ) → IsFault read e → text ≡ []
+    → Leaves (step_read number present state read) state slots (Err e) state text slots
+unread_leaves (Script f) number present read state slots text is empty =
+    (ap (step_read number present state) is, record { state = refl; unprinted = empty; slots = refl })
+unread_leaves Watcher number present read state slots text is empty = absurd is
+unread_leaves NoMemory number present read state slots text is empty =
+    (tt, record { state = refl; unprinted = empty; slots = refl })
+
+pub unread_served : (e : StepFault) (watches : Watches) (slots : Slots) → AreServed watches slots → AreServedAfter (Err e) watches slots
+unread_served (Script f) watches slots served = served
+unread_served Watcher watches slots served = tt
+unread_served NoMemory watches slots served = served

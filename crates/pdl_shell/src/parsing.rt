@@ -1,10 +1,8 @@
-//! The statement that a text is: its tokens are found, and where nice slices stand among them, the
-//! tokens of its plain text.
+//! What a text is parsed by: its tokens are found, and where nice slices stand among them, the tokens
+//! of its plain text.
 ghost use Rattle.std.specs.Prelude.{◌≡◌, ◌≤◌, length, if◌then◌else◌, Ok, IfOk, IfErr, OnOk};
 ghost use Rattle.pdl_lex.specs.Limits.{statement_limit};
 ghost use Rattle.pdl_lex.specs.Tokens.{toks};
-ghost use Rattle.pdl_syntax.specs.StatementTree.{statement_of};
-ghost use Rattle.pdl_syntax.specs.WellMade.{IsWellMade};
 ghost use Rattle.pdl_machine.specs.Reads.{reads_plain, reads};
 ghost use Rattle.pdl_shell.specs.Unread.{AreOfPlain, IsFault, of_lexing, of_parsing, of_nice};
 
@@ -13,15 +11,15 @@ use pdl_lexemes::Lexeme;
 use pdl_machine::{Fault, reads_law};
 use pdl_nice::{NiceFault, has_nice, write_plain};
 use pdl_session::StepFault;
-use pdl_syntax::{ParseFault, Statement, parse_within};
+use pdl_syntax::ParseFault;
 use std::alloc::Global;
 
 // Lists whose room is kept from one statement to the next. What stands in them is of no account.
 #[derive(Drop)]
 pub(crate) struct Rooms {
-    tokens: Vec<Token>,
-    lexemes: Vec<Lexeme>,
-    plain: Vec<u8>,
+    pub(crate) tokens: Vec<Token>,
+    pub(crate) lexemes: Vec<Lexeme>,
+    pub(crate) plain: Vec<u8>,
     nice: pdl_nice::Rooms,
 }
 
@@ -36,24 +34,8 @@ impl Rooms {
     }
 }
 
-// The statement that a text is, or why it is none.
-pub(crate) fn read(alloc: Global, text: &[u8], rooms: &mut Rooms) -> Result<Statement, StepFault>
-    requires { length text.now ≤ statement_limit }
-    ensures ok { IfOk result (λ s. reads text.now ≡ Ok (statement_of s)) }
-    ensures well_made { IfOk result (λ s. IsWellMade (statement_of s)) }
-    ensures fault { IfErr result (IsFault (reads text.now)) }
-{
-    reads_law();
-    let is_nice = find_tokens(text, rooms)?;
-    let plain = plain_text(text, &rooms.plain, is_nice);
-    match parse_within(alloc, plain, &rooms.tokens, &mut rooms.lexemes) {
-        Ok(statement) => Ok(statement),
-        Err(fault) => Err(of_parsing(fault)),
-    }
-}
-
 // The text itself, or where it has nice slices, the one that was written for it.
-fn plain_text<'a>(text: &'a [u8], written: &'a [u8], is_nice: bool) -> &'a [u8]
+pub(crate) fn plain_text<'a>(text: &'a [u8], written: &'a [u8], is_nice: bool) -> &'a [u8]
     ensures { result.now ≡ (if is_nice then written.now else text.now) }
 {
     if is_nice { written } else { text }
@@ -61,7 +43,7 @@ fn plain_text<'a>(text: &'a [u8], written: &'a [u8], is_nice: bool) -> &'a [u8]
 
 // Finds the tokens of the plain text of a text, and answers whether the text has nice slices: where
 // it has some the plain text is written, and else it is the text itself.
-fn find_tokens(text: &[u8], rooms: &mut Rooms) -> Result<bool, StepFault>
+pub(crate) fn find_tokens(text: &[u8], rooms: &mut Rooms) -> Result<bool, StepFault>
     requires { length text.now ≤ statement_limit }
     ensures found { IfOk result (λ is_nice.
         let plain = if is_nice then rooms.new.plain.items else text.now in
@@ -127,7 +109,7 @@ fn of_nice(fault: NiceFault) -> StepFault
 }
 
 // Why tokens are no statement's.
-fn of_parsing(fault: ParseFault) -> StepFault
+pub(crate) fn of_parsing(fault: ParseFault) -> StepFault
     ensures { result ≡ of_parsing fault }
 {
     match fault {

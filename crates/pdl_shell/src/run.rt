@@ -206,10 +206,10 @@ fn run_command<S: Source, K: Sink, W: Watcher>(
 /// What is written and told and the status are those of the ending that the words ask for, with the
 /// statements in `refused` refused, to all of which the run came; where the call stops short, a
 /// prefix is written and a front is told (`model`), and where the source fails, just what the
-/// statements print and tell that were whole by then, with just those in `refused` that the run met;
-/// whatever the status, the statements in `refused` are ones of the bytes taken (`reads`), and their
-/// numbers rise (`rising`). A fault of the source, the sink or a watcher is answered only where its count rose in
-/// this call (`reason`). It takes no memory where the words are no spelling.
+/// statements print and tell that were whole by then, with just those in `refused` that the run
+/// met; whatever the status, the statements in `refused` are ones of the bytes taken (`reads`), and
+/// their numbers rise (`rising`). A fault of the source, the sink or a watcher is answered only
+/// where its count rose in this call (`reason`). It takes no memory where the words are no spelling.
 ///
 /// No clause says that the call ends at once after such a fault, nor that it is only outside of a
 /// statement that it stops short for lack of memory.

@@ -190,7 +190,7 @@ impl Runner {
         let reported = self.answer(mark, watchers, steps, runs)?;
         match reported {
             None => write_text(sink, &self.text),
-            Some(line) => write_text(sink, line.bytes()),
+            Some(line) => line.write(sink),
         }
     }
 

@@ -9,15 +9,14 @@ ghost use Rattle.pdl_machine.specs.Run.{step_read, mark_step};
 ghost use Rattle.pdl_session.specs.Watching.{AreServed};
 ghost use Rattle.pdl_shell.specs.Marks.{mark_of};
 ghost use Rattle.pdl_shell.specs.Ran.{Leaves, AreServedAfter};
-ghost use Rattle.pdl_shell.specs.Unread.{IsFault};
 
 use crate::mark::Mark;
-use crate::parsing::{Rooms, read};
+use crate::parsing::{Rooms, find_tokens, of_parsing, plain_text};
 use pdl_buf::Steps;
 use pdl_lex::Piece;
-use pdl_machine::Fault;
+use pdl_machine::{Fault, reads_law};
 use pdl_session::{Session, StepFault};
-use pdl_syntax::Statement;
+use pdl_syntax::{Statement, parse_within};
 use pdl_watch::Watcher;
 use std::alloc::Global;
 use std::sync::ledger::Ledger;
@@ -44,8 +43,14 @@ fn run_text<W: Watcher, L: Ledger, M: Ledger>(
     ensures served { AreServedAfter result session.new.state.watches
         (slots_by W.seen watchers.new.items) }
 {
-    let statement = read(alloc, text, rooms)?;
-    run_statement(session, &statement, number, out, watchers, steps, runs)
+    reads_law();
+    let is_nice = find_tokens(text, rooms)?;
+    let plain = plain_text(text, &rooms.plain, is_nice);
+    // A statement is large, so it is run where it is parsed: to hand it out would copy it.
+    match parse_within(alloc, plain, &rooms.tokens, &mut rooms.lexemes) {
+        Ok(statement) => run_statement(session, &statement, number, out, watchers, steps, runs),
+        Err(fault) => Err(of_parsing(fault)),
+    }
 }
 
 // Runs a statement, which has this number, and puts what it prints into `out`.

@@ -72,6 +72,12 @@ fn a_session(rt: HostRuntime) {
     ends_as(
         rt,
         writer,
-        b"pp_def(\"f\",\"[o]b()\",\"$b() = 1;\");\n$d0 = zeroes(long,2);\n$d0->flat->slice(\"0:1\") .= pdl [3,-4];\n$d1 = $d0->clump(-1);\n$x = $d1;\nundef $d0;\nundef $d1;\n",
+        b"pp_def(\"f\",\"[o]b()\",\"$b() = 1;\");\n\
+          $d0 = zeroes(long,2);\n\
+          $d0->flat->slice(\"0:1\") .= pdl [3,-4];\n\
+          $d1 = $d0->clump(-1);\n\
+          $x = $d1;\n\
+          undef $d0;\n\
+          undef $d1;\n",
     );
 }

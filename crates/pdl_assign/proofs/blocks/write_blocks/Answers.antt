@@ -1,5 +1,5 @@
 -- One block more is found as at the start, and written.
-use Rattle.std.proofs.Common.{rules, ◌≡◌, ◌+◌, ◌≤◌, ℕ, ℤ, List, ◌++◌, length, length-append, length-drop, take, drop, true, is_ok, Ok, refl, sym, ◌∙◌, ap, arith}
+use Rattle.std.proofs.Common.{◌≡◌, ◌≤◌, ℕ, ℤ, List, ◌++◌, length, length-append, length-drop, take, drop, true, is_ok, Ok, refl, sym, ◌∙◌, ap, arith}
 use Rattle.std.proofs.lemmas.List.{length-take-le}
 use Rattle.pdl_shape.specs.Shape.{size_of}
 use Rattle.pdl_lemmas.specs.Lists.{take_written}
@@ -12,9 +12,9 @@ use Rattle.pdl_assign.proofs.blocks.write_blocks.Goals as goal
 pub loop-done-init : goal.loop-done-init
 loop-done-init g c = record {
   inside = omega arith;
-  values = search rules;
-  left = search rules;
-  right = search rules;
+  values = refl;
+  left = c.requires.left;
+  right = c.requires.right;
   world = sym (c.part_laws.ensures.nothing c.args.engine.now.world c.args.target c.requires.sound);
   holds = refl;
   next = refl;
@@ -44,8 +44,8 @@ loop-done-preserved g c =
     let n : ℕ = c.min-size.result in
     let vs : List ℤ = list_of (written_in c.args.sign w c.args.target c.args.source) in
     let size : length (take n c.loop-done.values) ≡ n = length-take-le n c.loop-done.values (omega (arith, c.min-size.ensures, c.loop-done.invariant.values)) in
-    let left : length (take n c.loop-done.left) ≡ n = length-take-le n c.loop-done.left (omega (arith, c.min-size.ensures, c.loop-done.invariant.left)) in
-    let right : length (take n c.loop-done.right) ≡ n = length-take-le n c.loop-done.right (omega (arith, c.min-size.ensures, c.loop-done.invariant.right)) in
+    let left : length (take n c.loop-done.left) ≡ n = length-take-le n c.loop-done.left (omega (arith, c.min-size.ensures, c.loop-done.invariant.values, c.loop-done.invariant.left)) in
+    let right : length (take n c.loop-done.right) ≡ n = length-take-le n c.loop-done.right (omega (arith, c.min-size.ensures, c.loop-done.invariant.values, c.loop-done.invariant.right)) in
     let k : length (elements w c.args.target) ≡ size_of (dims_in w c.args.target) = sym c.count_of-count.ensures.elements ∙ c.count_of-count.ensures.dims in
     let within : c.loop-done.done ≤ size_of (dims_in w c.args.target) = omega (arith, c.loop-done.invariant.inside, c.count_of-count.ensures.dims) in
     let e : block_in c.args.sign now c.args.target c.args.source c.loop-done.done n ≡ Ok (take n (drop c.loop-done.done vs)) =
@@ -62,8 +62,8 @@ loop-done-preserved g c =
     record {
       inside = omega (arith, c.min-size.ensures);
       values = omega (arith, c.min-size.ensures, count, length-append c.find_block.new.values (drop n c.loop-done.values), length-drop n c.loop-done.values, c.loop-done.invariant.values);
-      left = omega (arith, c.min-size.ensures, left, c.find_block.ensures.left_stays, length-append c.find_block.new.left (drop n c.loop-done.left), length-drop n c.loop-done.left, c.loop-done.invariant.left);
-      right = omega (arith, c.min-size.ensures, right, c.find_block.ensures.right_stays, length-append c.find_block.new.right (drop n c.loop-done.right), length-drop n c.loop-done.right, c.loop-done.invariant.right);
+      left = omega (arith, c.min-size.ensures, left, c.find_block.ensures.left_stays, length-append c.find_block.new.left (drop n c.loop-done.left), length-drop n c.loop-done.left, c.loop-done.invariant.values, c.loop-done.invariant.left);
+      right = omega (arith, c.min-size.ensures, right, c.find_block.ensures.right_stays, length-append c.find_block.new.right (drop n c.loop-done.right), length-drop n c.loop-done.right, c.loop-done.invariant.values, c.loop-done.invariant.right);
       world = written_more laws w now c.assign_part.new.self.world c.args.target c.loop-done.done n vs (take n (c.find_block.new.values ++ drop n c.loop-done.values)) (omega (arith, within, many)) c.loop-done.invariant.world block c.assign_part.ensures.world;
       holds = c.assign_part.ensures.holds ∙ c.loop-done.invariant.holds;
       next = c.assign_part.ensures.next ∙ c.loop-done.invariant.next;

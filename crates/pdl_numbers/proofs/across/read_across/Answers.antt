@@ -15,15 +15,21 @@ pub read_run-requires : goal.read_run-requires
 read_run-requires g c =
     let t : Triple = c.args.placement.now in
     let n : ℕ = length c.args.numbers.now in
-    let inc : to_z w32 (of_z w32 c.inc_along.result) ≡ get_or t.incs 1 (pos 0) =
-    to_z-of_z w32 c.inc_along.result (record { sfits = c.inc_along.type_inv })
-    ∙ c.inc_along.ensures ∙ ap (λ (u : Triple). get_or u.incs 1 (pos 0)) c.triple.ensures in (
+    let inc : to_z w32 (of_z w32 c.inc_along-inc.result) ≡ get_or t.incs 1 (pos 0) =
+    to_z-of_z w32 c.inc_along-inc.result (record { sfits = c.inc_along-inc.type_inv })
+    ∙ c.inc_along-inc.ensures ∙ ap (λ (u : Triple). get_or u.incs 1 (pos 0)) c.triple.ensures in (
       omega arith,
       (
-        c.requires.small,
-        λ j h.
-            let a : Across t n c.args.first j = across_at c.shape_laws.ensures.positions t n c.args.first j (length c.args.into.now) c.place-place.ensures.sound c.requires.reaches c.requires.some (c.requires.within j h) c.requires.along h in
-            subst (λ z. IsInside n z) (sym (ap₂ (λ k z. pos k +ℤ z *ℤ pos j) c.place-place.ensures.place inc)) a.inside,
+        c.are_at_once.ensures.beside,
+        (
+          c.are_at_once.ensures.some,
+          (
+            c.requires.small,
+            λ j h.
+                let a : Across t n c.args.first j = across_at c.shape_laws.ensures.positions t n c.args.first j (length c.args.into.now) c.place-place.ensures.sound c.requires.reaches c.requires.some (c.requires.within j h) c.requires.along h in
+                subst (λ z. IsInside n z) (sym (ap₂ (λ k z. pos k +ℤ z *ℤ pos j) c.place-place.ensures.place inc)) a.inside,
+          ),
+        ),
       ),
     )
 
@@ -31,9 +37,9 @@ pub returns-clause-value : goal.returns-clause-value
 returns-clause-value g c =
     let t : Triple = c.args.placement.now in
     let n : ℕ = length c.args.numbers.now in
-    let inc : to_z w32 (of_z w32 c.inc_along.result) ≡ get_or t.incs 1 (pos 0) =
-    to_z-of_z w32 c.inc_along.result (record { sfits = c.inc_along.type_inv })
-    ∙ c.inc_along.ensures ∙ ap (λ (u : Triple). get_or u.incs 1 (pos 0)) c.triple.ensures in
+    let inc : to_z w32 (of_z w32 c.inc_along-inc.result) ≡ get_or t.incs 1 (pos 0) =
+    to_z-of_z w32 c.inc_along-inc.result (record { sfits = c.inc_along-inc.type_inv })
+    ∙ c.inc_along-inc.ensures ∙ ap (λ (u : Triple). get_or u.incs 1 (pos 0)) c.triple.ensures in
     λ j h.
     let a : Across t n c.args.first j = across_at c.shape_laws.ensures.positions t n c.args.first j (length c.args.into.now) c.place-place.ensures.sound c.requires.reaches c.requires.some (c.requires.within j h) c.requires.along h in
     c.read_run.ensures j h
@@ -44,9 +50,9 @@ returns-clause-in_range g c =
     let t : Triple = c.args.placement.now in
     let n : ℕ = length c.args.numbers.now in
     let P : ℤ → Type 0 = InRange g.T.PackedType.ty in
-    let inc : to_z w32 (of_z w32 c.inc_along.result) ≡ get_or t.incs 1 (pos 0) =
-    to_z-of_z w32 c.inc_along.result (record { sfits = c.inc_along.type_inv })
-    ∙ c.inc_along.ensures ∙ ap (λ (u : Triple). get_or u.incs 1 (pos 0)) c.triple.ensures in
+    let inc : to_z w32 (of_z w32 c.inc_along-inc.result) ≡ get_or t.incs 1 (pos 0) =
+    to_z-of_z w32 c.inc_along-inc.result (record { sfits = c.inc_along-inc.type_inv })
+    ∙ c.inc_along-inc.ensures ∙ ap (λ (u : Triple). get_or u.incs 1 (pos 0)) c.triple.ensures in
     All-from_get_or P c.read_run.new.into (pos 0)
     (λ j h.
     let few : j < length c.args.into.now = omega (arith, h) in

@@ -40,10 +40,16 @@ read_run-requires g c =
     let wide : c.size_along-width.result ≡ get_or c.args.triple.now.dims 0 1 = c.size_along-width.ensures.size in (
       omega arith,
       (
-        omega (arith, wide, row.fits, c.requires.small, c.requires.within, length-take {A = ℤ}, length-drop {A = ℤ}),
-        λ j h.
-            let few : j < get_or c.args.triple.now.dims 0 1 = omega (arith, wide, length-take {A = ℤ}, length-drop {A = ℤ}) in
-            run_fits c.shape_laws.ensures.positions c.args.triple.now c.args.numbers.now c.args.numbers.now c.place_after-at.result (to_z w32 (of_z w32 c.inc_along-inc.result)) (c.args.position + c.loop-row.row * get_or c.args.triple.now.dims 0 1) j (get_or c.args.triple.now.dims 0 1) c.place_of-place.ensures.sound c.requires.reaches refl at inc refl (omega (arith, row.fits, c.requires.within)) (omega (arith, row.starts)),
+        c.are_at_once-at_once.ensures.beside,
+        (
+          λ t. omega (arith, c.are_at_once-at_once.ensures.some t, length-take {A = ℤ}, length-drop {A = ℤ}),
+          (
+            omega (arith, wide, row.fits, c.requires.small, c.requires.within, length-take {A = ℤ}, length-drop {A = ℤ}),
+            λ j h.
+                let few : j < get_or c.args.triple.now.dims 0 1 = omega (arith, wide, length-take {A = ℤ}, length-drop {A = ℤ}) in
+                run_fits c.shape_laws.ensures.positions c.args.triple.now c.args.numbers.now c.args.numbers.now c.place_after-at.result (to_z w32 (of_z w32 c.inc_along-inc.result)) (c.args.position + c.loop-row.row * get_or c.args.triple.now.dims 0 1) j (get_or c.args.triple.now.dims 0 1) c.place_of-place.ensures.sound c.requires.reaches refl at inc refl (omega (arith, row.fits, c.requires.within)) (omega (arith, row.starts)),
+          ),
+        ),
       ),
     )
 

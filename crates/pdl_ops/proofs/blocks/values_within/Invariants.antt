@@ -1,15 +1,14 @@
 -- The values before the next block are made, and there is room for it.
-use Rattle.std.proofs.Common.{◌≡◌, ◌≤◌, ◌*◌, ◌-◌, length, map, min}
+use Rattle.std.proofs.Common.{◌≡◌, ◌≤◌, ◌*◌, ◌-◌, length, map}
 use Rattle.pdl_elem.specs.Numbers.{wrapped}
 use Rattle.pdl_elem.specs.Types.{binary_result}
-use Rattle.pdl_ops.specs.declared.operands.TheConstants.{BLOCK}
 use Rattle.pdl_ops.proofs.Parts.{AreMade}
 use Rattle.pdl_ops.proofs.blocks.values_within.Given as goal
 
 abbrev pub invariant-loop-done : goal.invariant-loop-done
 invariant-loop-done l = record {
   inside : l.done ≤ l.count;
-  room : 3 * min (l.count - l.done) BLOCK ≤ length l.room;
+  room : 3 * l.block ≤ length l.room;
   ty : l.made.ty ≡ binary_result l.op l.ty l.ty;
   count : length l.made.elems ≡ l.done;
   made : AreMade l.op l.ty (map (wrapped l.ty) l.a.elems) (map (wrapped l.ty) l.b.elems) l.done l.made.elems;

@@ -1,13 +1,12 @@
 -- The values before the next part are made, and there is room for it.
-use Rattle.std.proofs.Common.{◌≡◌, ◌≤◌, ◌*◌, ◌-◌, length, min}
-use Rattle.pdl_ops.specs.declared.operands.TheConstants.{BLOCK}
+use Rattle.std.proofs.Common.{◌≡◌, ◌≤◌, ◌*◌, ◌-◌, length}
 use Rattle.pdl_ops.proofs.Parts.{AreFound}
 use Rattle.pdl_ops.proofs.values.values_within.Given as goal
 
 abbrev pub invariant-loop-done : goal.invariant-loop-done
 invariant-loop-done l = record {
   inside : l.done ≤ l.count;
-  room : 3 * min (l.count - l.done) BLOCK ≤ length l.room;
+  room : 3 * l.block ≤ length l.room;
   ty : l.made.ty ≡ l.old.ty;
   made : AreFound l.sign l.old.ty l.new.ty l.old.elems l.new.elems l.done l.made.elems;
 }

@@ -1,5 +1,6 @@
-use Rattle.std.proofs.Common.{◌≡◌, ℕ, true, List, Option, ◌∙◌, sym, ap}
+use Rattle.std.proofs.Common.{◌≡◌, ℕ, true, List, Option, ◌∙◌, sym, ap, subst, arith}
 use Rattle.std.proofs.lemmas.Result.{IfOk-weaker}
+use Rattle.pdl_shape.specs.Places.{IsBelow}
 use Rattle.pdl_shape.specs.Shape.{size_of}
 use Rattle.pdl_shape.specs.Triple.{Triple}
 use Rattle.pdl_nodes.specs.Placed.{placed_by}
@@ -8,7 +9,8 @@ use Rattle.pdl_nodes.specs.Rows.{row_at}
 use Rattle.pdl_nodes.specs.Worlds.{places_seen}
 use Rattle.pdl_nodes.specs.declared.origin.Layout.{Layout}
 use Rattle.pdl_nodes.specs.declared.origin.Origin.TheVariants.{View}
-use Rattle.pdl_pull.proofs.Found.{found_places, over_known}
+use Rattle.pdl_pull.specs.Gathered.{own_at}
+use Rattle.pdl_pull.proofs.Found.{found_places, over_known, own_below}
 use Rattle.pdl_pull.proofs.filling.find_places.Goals as goal
 
 pub unreachable-requires : goal.unreachable-requires
@@ -19,6 +21,15 @@ node-above-requires c = record { live = (c.row_laws.ensures.seen.view_at c.args.
 
 pub node-base-requires : goal.node-base-requires
 node-base-requires c = record { live = c.row_laws.ensures.seen.base_live c.args.table.now c.base.result c.in-View.parent c.requires.order.still (c.row_laws.ensures.seen.view_at c.args.table.now c.requires.order.still c.args.id c.in-View.parent c.in-View.trans c.in-View.layout c.requires.live (sym (c.origin.ensures ∙ ap (λ (r : Row). r.origin) c.node-node.ensures) ∙ c.in-View.is)).live (sym (c.base.ensures ∙ ap (λ (r : Row). r.base) c.node-above.ensures)) }
+
+pub places_through-requires-clause-within : goal.places_through-requires-clause-within
+places_through-requires-clause-within c = λ p l.
+    let view : Row → Triple = λ r. r.triple in
+    let count : c.elements_of-count.result ≡ size_of (row_at c.args.table.now c.args.id).triple.dims = c.elements_of-count.ensures.count ∙ ap (λ (t : Triple). size_of t.dims) (c.behind-node.view_is ∙ c.triple.ensures ∙ ap view c.node-node.ensures) in
+    let size : c.elements_of-size.result ≡ size_of (row_at c.args.table.now c.in-View.parent).triple.dims = c.elements_of-size.ensures.count ∙ ap (λ (t : Triple). size_of t.dims) (c.behind-above.view_is ∙ c.triple-in-View.ensures ∙ ap view c.node-above.ensures) in
+    subst (λ (n : ℕ). IsBelow n (own_at c.get.result.now p)) (sym size)
+    (own_below c.row_laws.ensures c.args.table.now c.args.id c.in-View.parent c.in-View.trans c.get.result.now c.requires.order.still c.requires.live c.requires.own
+    (sym (c.origin.ensures ∙ ap (λ (r : Row). r.origin) c.node-node.ensures) ∙ c.in-View.is ∙ ap (λ (y : Layout). View c.in-View.parent c.in-View.trans y) (sym c.get.ensures)) p (omega (arith, count)))
 
 pub returns : goal.returns
 returns c =

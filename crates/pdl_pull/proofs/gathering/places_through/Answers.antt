@@ -1,12 +1,18 @@
-use Rattle.std.proofs.Common.{◌≡◌, ℕ, List, [], ◌∷◌, ◌++◌, Option, option_and_then, map, ap, ap₂, sym, ◌∙◌, arith}
+use Rattle.std.proofs.Common.{◌≡◌, ℕ, List, [], ◌∷◌, ◌++◌, Option, option_and_then, map, ap, ap₂, sym, subst, ◌∙◌, arith}
 use Rattle.std.specs.List.{range_with_len}
 use Rattle.std.proofs.lemmas.List.FromFn.{map-range_with_len_more}
+use Rattle.pdl_shape.specs.Places.{IsBelow}
 use Rattle.pdl_shape.specs.Triple.{Triple}
 use Rattle.pdl_nodes.specs.declared.origin.Layout.{Layout}
 use Rattle.pdl_nodes.specs.Assigned.{entry}
 use Rattle.pdl_nodes.specs.Placed.{placed_by}
 use Rattle.pdl_pull.specs.Gathered.{own_at}
 use Rattle.pdl_pull.proofs.gathering.places_through.Goals as goal
+
+pub picks_places-requires-clause-within : goal.picks_places-requires-clause-within
+picks_places-requires-clause-within c = λ p l.
+    subst (λ (o : Option ℕ). IsBelow c.args.size o) (ap (λ (y : Layout). own_at y p) c.in-Choice.is ∙ ap (λ (ps : List (Option ℕ)). entry ps p) (sym c.as_slice-own.ensures))
+    (c.requires.within p l)
 
 pub loop-position-preserved : goal.loop-position-preserved
 loop-position-preserved c =

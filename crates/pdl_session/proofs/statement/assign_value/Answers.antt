@@ -1,15 +1,16 @@
-use Rattle.std.proofs.Common.{◌+◌, ◌≤◌, length, subst, ◌∙◌}
-use Rattle.std.specs.Prelude.{map}
+use Rattle.std.proofs.Common.{◌≡◌, ◌+◌, ◌≤◌, List, length, subst, ◌∙◌}
+use Rattle.std.specs.Prelude.{map, ◌==◌}
 use Rattle.pdl_shape.specs.Shape.{size_of}
 use Rattle.pdl_world.specs.World.{dims_in}
 use Rattle.pdl_machine.specs.Flows.{Flows, followers}
 use Rattle.pdl_scope.specs.FlowCosts.{following_steps}
 use Rattle.pdl_scope.specs.Scope.{engine_of}
 use Rattle.pdl_syntax.specs.TreeOf.{tree_of}
+use Rattle.pdl_syntax.specs.declared.tree.ViewCall.{ViewCall}
 use Rattle.pdl_syntax.specs.StatementTree.{view_of}
 use Rattle.pdl_machine.specs.Step.{target, assigned}
 use Rattle.pdl_session.proofs.Affected.{assigned_affected, flows_within, late_unflowed}
-use Rattle.pdl_session.proofs.Bounded.{no_views_of, target_refused, value_refused, assigned_plainly, assigned_readable}
+use Rattle.pdl_session.proofs.Bounded.{bare_noted, no_views_of, target_refused, value_refused, assigned_plainly, assigned_readable}
 use Rattle.pdl_session.proofs.Facts.{ends_at, grows_trans}
 use Rattle.pdl_session.proofs.Assigning.{assigned_told}
 use Rattle.pdl_session.proofs.Expressions.{names_less, names_live}
@@ -103,3 +104,9 @@ returns-clause-flowing g c =
     subst (λ (fs : Flows). c.assign.new.runs ≤ c.args.runs.now + length fs)
     (assigned_affected c.growth_laws.ensures.older s mid late to c.in_ok-to.to c.in_ok-to.ensures.value.0 c.in_ok-to.ensures.value.1 c.assigned_to.ensures.grown c.eval.ensures.grown c.in_order-2.ensures.whole c.in_order-3.ensures.whole)
     c.assign.ensures.affected
+
+pub returns-clause-bare : goal.returns-clause-bare
+returns-clause-bare g c =
+    let bare : c.is_empty-is_bare.result ≡ (length c.args.to.now.views.items == 0) = subst (λ (vs : List ViewCall). c.is_empty-is_bare.result ≡ (length vs == 0)) c.deref-views.ensures.value c.is_empty-is_bare.ensures in
+    bare_noted c.assign.result c.args.to.now.views.items c.args.to.now.name c.args.sign (tree_of c.args.value.now) c.args.scope.now c.assigned_to.new.scope c.args.steps.now c.assigned_to.new.steps c.in_ok-to.to
+    c.is_empty-is_bare.result c.then_some.result bare c.in_ok-to.ensures.bare c.then_some.ensures

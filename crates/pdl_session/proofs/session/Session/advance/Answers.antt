@@ -1,4 +1,4 @@
-use Rattle.std.proofs.Common.{rules, ap, subst, ◌∙◌}
+use Rattle.std.proofs.Common.{◌≡◌, rules, ap, subst, ◌∙◌}
 use Rattle.std.specs.Prelude.{OnErr, OnOk}
 use Rattle.pdl_syntax.specs.StatementTree.{statement_of}
 use Rattle.pdl_watch.specs.Slots.{slots_by, present_in}
@@ -35,10 +35,12 @@ returns g c = record {
   unprinted = kept_out c.run-ran.result (effect (present_in (slots_by g.W.Watcher.seen c.args.watchers.now.items)) (machine c.self.inside.scope) (statement_of c.args.statement.now)) c.self.inside.scope c.run-ran.new.scope c.args.out.now.items c.run-ran.new.out.items c.run-ran.ensures.runs;
   numbered = search rules;
   warm = (
-      warm_ok c.run-ran.result c.bare_target-assigned.result c.self.inside.warm c.warm_then-self-inside.result (warm_after c.args.self.now.scope (statement_of c.args.statement.now)) c.warm_then-self-inside.ensures
-      (c.bare_target-assigned.ensures ∙ ap (λ (s : Session). warm_after s.scope (statement_of c.args.statement.now)) c.self.view_is)
+      let tree = statement_of c.args.statement.now in
+      let P : Session → Type 0 = λ s. OnOk c.run-ran.result (c.run-ran.new.bare ≡ warm_after s.scope tree) in
+      warm_ok c.run-ran.result c.run-ran.new.bare c.self.inside.warm c.warm_then-self-inside.result (warm_after c.args.self.now.scope tree) c.warm_then-self-inside.ensures
+      (subst P c.self.view_is c.run-ran.ensures.bare)
       );
-  warm_kept = warm_err c.run-ran.result c.bare_target-assigned.result c.self.inside.warm c.warm_then-self-inside.result c.args.self.now.warm c.warm_then-self-inside.ensures (ap (λ (s : Session). s.warm) c.self.view_is);
+  warm_kept = warm_err c.run-ran.result c.run-ran.new.bare c.self.inside.warm c.warm_then-self-inside.result c.args.self.now.warm c.warm_then-self-inside.ensures (ap (λ (s : Session). s.warm) c.self.view_is);
   scope_kept = (
       let P : Session → Type 0 = λ s. OnErr c.run-ran.result (IsAsBefore s.scope c.let_go.new.self) in
       subst P c.self.view_is
@@ -94,9 +96,9 @@ returns g c = record {
 
 pub invariant_of-self : goal.invariant_of-self
 invariant_of-self g c =
-    resting.at_rest (record { goes = c.sweep_laws.ensures.new; older = c.growth_laws.ensures.older; paths = c.growth_laws.ensures.older_paths; assigned_paths = c.assignment_laws.ensures.paths; bases = c.sweep_laws.ensures.bases; seen = c.sweep_laws.ensures.seen; assigned = c.sweep_laws.ensures.assigned }) (present_in (slots_by g.W.Watcher.seen c.args.watchers.now.items)) c.run-ran.result (statement_of c.args.statement.now) c.self.inside.warm c.bare_target-assigned.result c.warm_then-self-inside.result c.self.inside.scope c.run-ran.new.scope c.let_go.new.self c.args.out.now.items c.run-ran.new.out.items
+    resting.at_rest (record { goes = c.sweep_laws.ensures.new; older = c.growth_laws.ensures.older; paths = c.growth_laws.ensures.older_paths; assigned_paths = c.assignment_laws.ensures.paths; bases = c.sweep_laws.ensures.bases; seen = c.sweep_laws.ensures.seen; assigned = c.sweep_laws.ensures.assigned }) (present_in (slots_by g.W.Watcher.seen c.args.watchers.now.items)) c.run-ran.result (statement_of c.args.statement.now) c.self.inside.warm c.run-ran.new.bare c.warm_then-self-inside.result c.self.inside.scope c.run-ran.new.scope c.let_go.new.self c.args.out.now.items c.run-ran.new.out.items
     (record { whole = c.in_order.ensures.whole; swept = c.self.invariant.swept; ran = c.in_order-2.ensures.whole; gone = c.let_go.ensures.gone; stay = c.let_go.ensures.stay }) (tidied_after (machine c.run-ran.new.scope) (machine c.let_go.new.self) c.sweep_laws.ensures.seen c.numbering_laws.ensures.again c.in_order-2.ensures.whole c.let_go.ensures.gone)
     (left_spelled (record { unseen = c.numbering_laws.ensures.unseen; keeps = c.dumpable_laws.ensures.keeps; numbers = c.dumpable_laws.ensures.numbers }) (present_in (slots_by g.W.Watcher.seen c.args.watchers.now.items)) c.run-ran.result (statement_of c.args.statement.now) c.self.inside.scope c.run-ran.new.scope (machine c.let_go.new.self) c.args.out.now.items c.run-ran.new.out.items
     c.in_order.ensures.whole c.self.invariant.swept c.self.invariant.spelled c.requires.made c.in_order-2.ensures.whole c.let_go.ensures.unseen c.run-ran.ensures.runs)
     c.self.invariant.kept_warm
-    c.bare_target-assigned.ensures c.warm_then-self-inside.ensures c.run-ran.ensures.runs c.run-ran.ensures.readable
+    c.run-ran.ensures.bare c.warm_then-self-inside.ensures c.run-ran.ensures.runs c.run-ran.ensures.readable

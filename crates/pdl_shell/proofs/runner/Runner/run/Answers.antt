@@ -19,10 +19,10 @@ returns-in-None-clause-short g c =
 
 pub returns-in-Some-clause-ran : goal.returns-in-Some-clause-ran
 returns-in-Some-clause-ran g c =
-    run_written c.args.self.now c.answer.new.self _ _ _ _ _ c.write_text-in-Some.result c.bytes.ensures (rw c.in-Some.is at c.in_ok-reported.ensures.ran)
-    c.write_text-in-Some.ensures.whole c.write_text-in-Some.ensures.cause
+    run_written c.args.self.now c.answer.new.self _ _ _ _ _ c.write.result refl (rw c.in-Some.is at c.in_ok-reported.ensures.ran)
+    c.write.ensures.whole c.write.ensures.cause
 
 pub returns-in-Some-clause-short : goal.returns-in-Some-clause-short
 returns-in-Some-clause-short g c =
-    run_unwritten c.course_laws.ensures c.args.self.now c.answer.new.self _ _ _ _ _ c.write_text-in-Some.result c.bytes.ensures (rw c.in-Some.is at c.in_ok-reported.ensures.ran)
-    c.write_text-in-Some.ensures.prefix c.write_text-in-Some.ensures.cause
+    run_unwritten c.course_laws.ensures c.args.self.now c.answer.new.self _ _ _ _ _ c.write.result refl (rw c.in-Some.is at c.in_ok-reported.ensures.ran)
+    c.write.ensures.prefix c.write.ensures.cause

@@ -3,7 +3,7 @@ use Rattle.std.proofs.Common.{◌≡◌, ℕ, ◌+◌, ◌-◌, ◌*◌, ℤ, po
 use Rattle.std.specs.Int.{int_wrap, w64}
 use Rattle.pdl_reduce.specs.Blocks.{sum_at}
 use Rattle.pdl_reduce.proofs.ShortRows.{put_length, sums_more}
-use Rattle.pdl_reduce.proofs.sums.set_each_sum.Goals as goal
+use Rattle.pdl_reduce.proofs.sums.set_sums.Goals as goal
 
 pub loop-j-preserved : goal.loop-j-preserved
 loop-j-preserved c =

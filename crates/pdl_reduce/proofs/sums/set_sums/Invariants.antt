@@ -2,7 +2,7 @@
 use Rattle.std.proofs.Common.{◌≡◌, ◌<◌, ◌*◌, ℕ, pos, length, take, drop, get_or}
 use Rattle.std.specs.Int.{int_wrap, w64}
 use Rattle.pdl_reduce.specs.Blocks.{sum_at}
-use Rattle.pdl_reduce.proofs.sums.set_each_sum.Given as goal
+use Rattle.pdl_reduce.proofs.sums.set_sums.Given as goal
 
 abbrev pub invariant-loop-j : goal.invariant-loop-j
 invariant-loop-j l = record {
