@@ -24,7 +24,7 @@ pub fn list_courses(form: &Form, parent: &Dims, courses: &mut SmallVec<Course, M
     }
 }
 
-/// The course of one dimension of the parent.
+/// How one dimension of the parent runs along the view. It is asked for each of them in order.
 fn course(form: &Form, parent: &[u32], dimension: usize) -> Course
     requires short { length parent.now ≤ dims_limit }
     requires inside { dimension < length parent.now }

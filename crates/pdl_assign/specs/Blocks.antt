@@ -50,7 +50,7 @@ pub record CanBlock (sign : AssignOp) (w : World) (v u : ℕ) : Type 0 where
   pub few : length (dims_in w u) ≤ length (dims_in w v)
   pub reads : ReadsAsAtStart sign w v u
 
--- the list that is there
+-- the values that were found, and none where the first refusal came
 abbrev pub list_of : Result (List ℤ) OpRefusal → List ℤ
 list_of (Ok vs) = vs
 list_of (Err e) = []

@@ -1,6 +1,7 @@
 //! An assignment, block by block.
-ghost use Rattle.std.specs.Prelude.{◌≡◌, ℕ, ◌+◌, ◌≤◌, ◌<◌, ◌^◌, length, false, true, is_ok, Ok, All, OnOk, OnErr, IfErr};
-ghost use Rattle.pdl_elem.specs.Types.{InRange};
+ghost use Rattle.std.specs.Prelude.{◌≡◌, ℕ, ◌+◌, ◌≤◌, ◌<◌, ◌^◌, length, map, false, true, is_ok, Ok, All, OnOk, OnErr, IfErr, IfSome};
+ghost use Rattle.pdl_elem.specs.Types.{InRange, promoted};
+ghost use Rattle.pdl_numbers.specs.Updates.{Suits, updated};
 ghost use Rattle.pdl_shape.specs.Broadcast.{BroadcastsTo};
 ghost use Rattle.pdl_shape.specs.Shape.{size_of};
 ghost use Rattle.pdl_ops.specs.Answers.{IsRefused, refusal_named};
@@ -12,11 +13,16 @@ ghost use Rattle.pdl_world.specs.World.{dims_in, elements, has_repeats, places_i
 ghost use Rattle.pdl_engine.specs.State.{is_fresh};
 ghost use Rattle.pdl_assign.specs.Blocks.{AreWritten, CanBlock, IsAssigned, IsWritten, block_in, values_in, written_in};
 
-use pdl_buf::{Steps, Strided, stretched, strided_dims, strided_read};
+use pdl_buf::{
+    Steps, Strided, stretched, strided_dims, strided_get, strided_is_in_range, strided_read,
+    strided_type,
+};
+use pdl_elem::{Ty, promote, wrap, wrapping_laws};
 use pdl_engine::{ArrayId, Engine};
 use pdl_lexemes::AssignOp;
+use pdl_numbers::Update;
 use pdl_ops::{OpFault, first_divisor, stretches, value_laws, values_part};
-use pdl_shape::{Dims, copy_dims, elements_of};
+use pdl_shape::{Dims, copy_dims, elements_of, shape_laws};
 use pdl_world::{assignment_laws, part_laws};
 use std::sync::ledger::Ledger;
 
@@ -113,22 +119,18 @@ fn count_of(engine: &Engine, id: ArrayId) -> usize
     elements_of(strided_dims(&window)) as usize
 }
 
-/// Finds and writes the values of an assignment that nothing refuses, in blocks as long as the rooms
-/// for one. It takes a step for each.
-fn write_blocks<L: Ledger>(
+/// Finds and writes the values of an assignment that nothing refuses, in blocks of so many. It takes
+/// a step for each, and no memory.
+fn write_blocks<L: Ledger, const ROOM: usize>(
     engine: &mut Engine,
     sign: AssignOp,
     target: ArrayId,
     source: ArrayId,
     dims: &Dims,
-    values: &mut [i64],
-    left: &mut [i64],
-    right: &mut [i64],
     steps: &mut Steps<L>,
 )
-    requires room { 0 < length values.old }
-    requires left { length left.old ≡ length values.old }
-    requires right { length right.old ≡ length values.old }
+    requires room { 0 < ROOM }
+    requires small { ROOM < 2 ^ 32 }
     requires sound { IsSound engine.old.world }
     requires target { IsLive engine.old.world target }
     requires source { IsLive engine.old.world source }
@@ -145,9 +147,12 @@ fn write_blocks<L: Ledger>(
     assignment_laws();
     value_laws();
     let count = count_of(engine, target);
+    let mut values = [0; ROOM];
+    let mut left = [0; ROOM];
+    let mut right = [0; ROOM];
     let mut done = 0;
     while done < count {
-        let size = (count - done).min(values.len());
+        let size = (count - done).min(ROOM);
         let first = done as u32;
         find_block(
             engine,
@@ -165,8 +170,60 @@ fn write_blocks<L: Ledger>(
     }
 }
 
-/// Finds and writes the values of an assignment that nothing refuses. It takes a step for each, and
-/// no memory.
+/// Whether an operator on a number of each of the two types works at the first.
+fn works_at(ty: Ty, other: Ty) -> bool
+    ensures { result ≡ true → promoted ty other ≡ ty }
+{
+    promote(ty, other) == ty
+}
+
+/// The update that an assignment is that nothing refuses: its right side is one number, the operator
+/// works at the target's type, and the target's elements stand in its root.
+fn update_of(engine: &Engine, sign: AssignOp, target: ArrayId, source: ArrayId) -> Option<Update>
+    requires sound { IsSound engine.now.world }
+    requires target { IsLive engine.now.world target }
+    requires source { IsLive engine.now.world source }
+    requires target_fresh { is_fresh engine.now target ≡ true }
+    requires source_fresh { is_fresh engine.now source ≡ true }
+    requires stretches { let w = engine.now.world in
+        BroadcastsTo (dims_in w source) (dims_in w target) }
+    requires can { CanBlock sign engine.now.world target source }
+    requires never { is_ok (written_in sign engine.now.world target source) ≡ true }
+    ensures over_root { let w = engine.now.world in
+        IfSome result (λ change. base w target ≡ root_of w target) }
+    ensures once { let w = engine.now.world in
+        IfSome result (λ change. has_repeats (places_in w target) ≡ false) }
+    ensures suits { IfSome result (Suits (ty_in engine.now.world target)) }
+    ensures value { let w = engine.now.world in
+        IfSome result (λ change. written_in sign w target source
+        ≡ Ok (map (updated (ty_in w target) change) (elements w target))) }
+{
+    let AssignOp::With(op) = sign else {
+        return None;
+    };
+    if !engine.stands_in_root(target) {
+        return None;
+    }
+    shape_laws();
+    wrapping_laws();
+    let into = engine.lend(target);
+    strided_is_in_range(&into);
+    let _count = strided_dims(&into);
+    let from = engine.lend(source);
+    let ty = engine.ty(target);
+    if elements_of(strided_dims(&from)) != 1 || !works_at(ty, strided_type(&from)) {
+        return None;
+    }
+    let number = wrap(ty, i128::from(strided_get(&from, 0)));
+    // 0 is left to blocks: where the operator divides, there is nothing to write.
+    if number == 0 {
+        return None;
+    }
+    Some(Update { op, number })
+}
+
+/// Finds and writes the values of an assignment that nothing refuses: where the elements stand, if
+/// one number changes them, and block by block otherwise. It takes a step for each, and no memory.
 fn write_values<L: Ledger>(
     engine: &mut Engine,
     sign: AssignOp,
@@ -187,36 +244,12 @@ fn write_values<L: Ledger>(
     ensures written { AreWritten sign engine.old target source engine.new }
     ensures counted { steps.new ≡ steps.old + size_of (dims_in engine.old.world target) }
 {
-    if count_of(engine, target) <= LONG {
-        let mut values = [0; BLOCK];
-        let mut left = [0; BLOCK];
-        let mut right = [0; BLOCK];
-        write_blocks(
-            engine,
-            sign,
-            target,
-            source,
-            dims,
-            &mut values,
-            &mut left,
-            &mut right,
-            steps,
-        )
+    if let Some(change) = update_of(engine, sign, target, source) {
+        engine.update(target, change, steps)
+    } else if count_of(engine, target) <= LONG {
+        write_blocks::<L, BLOCK>(engine, sign, target, source, dims, steps)
     } else {
-        let mut values = [0; LONG];
-        let mut left = [0; LONG];
-        let mut right = [0; LONG];
-        write_blocks(
-            engine,
-            sign,
-            target,
-            source,
-            dims,
-            &mut values,
-            &mut left,
-            &mut right,
-            steps,
-        )
+        write_blocks::<L, LONG>(engine, sign, target, source, dims, steps)
     }
 }
 
@@ -254,15 +287,15 @@ pub fn assign_blocks<L: Ledger>(
     }
 }
 
-/// Puts what a window shows at the positions of an array, in blocks as long as a room for one.
-fn write_shown<L: Ledger>(
+/// Puts what a window shows at the positions of an array, in blocks of so many.
+fn write_shown<L: Ledger, const ROOM: usize>(
     engine: &mut Engine,
     target: ArrayId,
     values: &Strided<'_>,
-    block: &mut [i64],
     steps: &mut Steps<L>,
 )
-    requires room { 0 < length block.old }
+    requires room { 0 < ROOM }
+    requires small { ROOM < 2 ^ 32 }
     requires sound { IsSound engine.old.world }
     requires live { IsLive engine.old.world target }
     requires fresh { is_fresh engine.old target ≡ true }
@@ -279,9 +312,10 @@ fn write_shown<L: Ledger>(
     assignment_laws();
     value_laws();
     let count = elements_of(strided_dims(values)) as usize;
+    let mut block = [0; ROOM];
     let mut shown = 0;
     while shown < count {
-        let size = (count - shown).min(block.len());
+        let size = (count - shown).min(ROOM);
         let first = shown as u32;
         strided_read(values, first, &mut block[..size]);
         engine.assign_part(target, first, &block[..size], steps);
@@ -311,10 +345,8 @@ pub fn assign_shown<L: Ledger>(
     ensures counted { steps.new ≡ steps.old + length values.now.elems }
 {
     if elements_of(strided_dims(values)) as usize <= FEW {
-        let mut block = [0; FEW];
-        write_shown(engine, target, values, &mut block, steps)
+        write_shown::<L, FEW>(engine, target, values, steps)
     } else {
-        let mut block = [0; SHOWN];
-        write_shown(engine, target, values, &mut block, steps)
+        write_shown::<L, SHOWN>(engine, target, values, steps)
     }
 }

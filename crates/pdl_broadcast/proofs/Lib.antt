@@ -1,4 +1,4 @@
-pub mod Jumping
-pub mod Standing
-pub mod Stepping
-pub mod Walking
+pub mod CursorJumps
+pub mod CursorStand
+pub mod CursorSteps
+pub mod WalkLemmas

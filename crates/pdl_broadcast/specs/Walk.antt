@@ -24,6 +24,6 @@ standing_at w = coordinates_of w.dims w.index
 abbrev pub argument_coordinates : Walk → Triple → List ℕ
 argument_coordinates w t = cut_to t.dims (standing_at w)
 
--- the place of an argument there
+-- the place in an argument's elements there, by its triple
 abbrev pub argument_place : Walk → Triple → ℤ
 argument_place w t = place_of t (argument_coordinates w t)

@@ -1,2 +1,2 @@
-pub mod Wholes
-pub mod Stretches
+pub mod TripleWholes
+pub mod BroadcastStretches

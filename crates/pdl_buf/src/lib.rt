@@ -1,9 +1,9 @@
 //! Kept buffers of numbers, windows on them, and the count of the elements that were moved.
 //!
 //! A buffer comes into being by `buf_of`, `buf_of_elements` or `gathered` alone and is changed by
-//! `buf_set`, `gather` and the five calls `scatter` to `scatter_onward` alone, and each of these
-//! counts the elements that it moves in a `Steps` of the caller. So each element that isn't 0 came
-//! in by a counted step.
+//! `buf_set`, `gather`, the five calls `scatter` to `scatter_onward` and `update` alone, and each of
+//! these counts the elements that it moves or changes in a `Steps` of the caller. So each element
+//! that isn't 0 came in by a counted step.
 #![tactic(auto)]
 
 mod buffer;
@@ -21,7 +21,7 @@ pub use buffer::{Buf, buf_bytes, buf_get, buf_of, buf_of_elements, buf_set};
 pub use lending::strided;
 pub use made::{Elements, Made};
 pub use moves::{
-    gather, gathered, scatter, scatter_along, scatter_by, scatter_from, scatter_onward,
+    gather, gathered, scatter, scatter_along, scatter_by, scatter_from, scatter_onward, update,
 };
 pub use packing::Packing;
 pub use ranges::strided_is_in_range;

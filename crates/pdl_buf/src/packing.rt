@@ -1,10 +1,12 @@
 //! Numbers that are collected in blocks, packed as they are made or as a list.
-ghost use Rattle.std.specs.Prelude.{◌≡◌, ◌<◌, ◌≤◌, ◌+◌, ◌++◌, [], length, take, drop, All, IfOk, OnOk, OnErr};
+ghost use Rattle.std.specs.Prelude.{◌≡◌, ◌≢◌, ◌<◌, ◌≤◌, ◌+◌, ◌++◌, [], pos, length, take, drop, All, IsTrue, IfOk, OnOk, OnErr};
+ghost use Rattle.pdl_elem.specs.Blocks.{pairwise};
+ghost use Rattle.pdl_elem.specs.Operators.{divides, value_of};
 ghost use Rattle.pdl_elem.specs.Types.{InRange};
 ghost use Rattle.pdl_buf.specs.Elements.{listed};
 ghost use Rattle.pdl_numbers.specs.Numbers.{elements_in};
 
-use pdl_elem::Ty;
+use pdl_elem::{BinaryOp, Ty, apply_all, block_laws};
 use pdl_numbers::{Numbers, numbers_of};
 use std::alloc::{AllocError, Global};
 use std::marker::Model;
@@ -84,6 +86,28 @@ impl Form {
     }
 }
 
+/// Puts the operator's values at a type on each two numbers of it after the others of a list.
+fn extend_list(
+    list: &mut Vec<i64>,
+    op: BinaryOp,
+    ty: Ty,
+    left: &[i64],
+    right: &[i64],
+) -> Result<(), AllocError>
+    requires paired { length left.now ≡ length right.now }
+    requires left_in_range { All (InRange ty) left.now }
+    requires right_in_range { All (InRange ty) right.now }
+    requires divisors { IsTrue (divides op) → All (λ y. y ≢ pos 0) right.now }
+    ensures ok { let values = pairwise (value_of op ty) left.now right.now in
+        OnOk result (list.new.items ≡ list.old.items ++ values) }
+    ensures err { OnErr result (list.new.items ≡ list.old.items) }
+{
+    let start = list.len();
+    list.resize(start + left.len(), 0)?;
+    apply_all(op, ty, left, right, &mut list[start..]);
+    Ok(())
+}
+
 /// A type and numbers in its range, which are put one block after another: packed, so that they
 /// take no more bytes than the type is wide, or as a list of 64-bit numbers. No array has them yet.
 #[derive(Debug, Drop)]
@@ -135,6 +159,29 @@ impl Packing {
         match &mut self.form {
             Form::Wide(items) => items.extend_from_slice(numbers),
             Form::Packed(packed) => packed.extend(numbers),
+        }
+    }
+
+    /// Puts the operator's values at the type on each two numbers of it after the others. Where the
+    /// operator divides, none of those on the right is 0. Out of memory it puts none.
+    pub fn extend_values(
+        &mut self,
+        op: BinaryOp,
+        left: &[i64],
+        right: &[i64],
+    ) -> Result<(), AllocError>
+        requires paired { length left.now ≡ length right.now }
+        requires left_in_range { All (InRange self.old.ty) left.now }
+        requires right_in_range { All (InRange self.old.ty) right.now }
+        requires divisors { IsTrue (divides op) → All (λ y. y ≢ pos 0) right.now }
+        ensures ok { let values = pairwise (value_of op self.old.ty) left.now right.now in
+            OnOk result (self.new ≡ record self.old { elems = self.old.elems ++ values }) }
+        ensures err { OnErr result (self.new ≡ self.old) }
+    {
+        block_laws();
+        match &mut self.form {
+            Form::Wide(items) => extend_list(items, op, self.ty, left, right),
+            Form::Packed(packed) => packed.extend_values(op, left, right),
         }
     }
 

@@ -1,2 +1,2 @@
-pub mod Kept
-pub mod Served
+pub mod KeptLemmas
+pub mod SlotsServed

@@ -13,7 +13,7 @@ pub struct Answer {
 }
 
 impl Answer {
-    /// No text.
+    /// No text, from which no piece was left out.
     pub fn new(alloc: Global) -> Answer {
         Answer {
             alloc,
@@ -22,7 +22,7 @@ impl Answer {
         }
     }
 
-    /// The text.
+    /// What was said so far, but the pieces for which there was no memory.
     pub fn text(&self) -> &str {
         self.text.as_str()
     }

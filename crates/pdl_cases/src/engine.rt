@@ -264,7 +264,7 @@ fn say_window(answer: &mut Answer, window: &Strided<'_>) {
     }
 }
 
-// What is lent of an array.
+// What is lent of an array as it is, without making it ready, if it can be lent.
 fn say_lent<L: Ledger>(board: &Board<L>, array: &Array, answer: &mut Answer) -> Option<()>
     requires { IsKept board.now.engine array.now }
 {

@@ -5,7 +5,7 @@ use crate::answer::Answer;
 use crate::cursor::Cursor;
 use pdl_elem::{BinaryOp, Ty, UnaryOp, binary, unary, wrap};
 
-/// The types.
+/// The types by the names that cases give them, in the order of their ranks.
 pub const TYPES: &[(&str, Ty)] = &[
     ("Sbyte", Ty::Sbyte),
     ("Byte", Ty::Byte),

@@ -30,7 +30,7 @@ fn say_fault(answer: &mut Answer, fault: &str) {
 }
 
 // Runs a statement, and says its fault. Answers whether the session goes on.
-#[tactic(auto, using(crate::proofs::Served::served_still))]
+#[tactic(auto, using(crate::proofs::SlotsServed::served_still))]
 fn step<L: Ledger, M: Ledger>(
     session: &mut Session,
     statement: &Statement,
@@ -115,7 +115,7 @@ fn run_piece<L: Ledger, M: Ledger>(
 }
 
 // Runs the statements, and says how many arrays there are then.
-#[tactic(auto, using(crate::proofs::Served::served_first))]
+#[tactic(auto, using(crate::proofs::SlotsServed::served_first))]
 fn run_pieces<L: Ledger, M: Ledger>(
     pieces: &[Piece],
     watchers: &mut Vec<Option<Box<dyn Watcher>>>,

@@ -24,7 +24,7 @@ use std::rc::Rc;
 // What stands between two parts of an answer.
 const BETWEEN: &str = "; ";
 
-// The slots of the program.
+// How many slots the program `pdl` has.
 const PROGRAM_SLOTS: u64 = 8;
 
 // A call of `tell` or `finish` that fails.
@@ -42,7 +42,7 @@ pub struct Slots {
 }
 
 impl Slots {
-    /// No slots.
+    /// No slots, and no call that fails.
     pub fn new(alloc: Global) -> Slots {
         Slots {
             rooms: Vec::new(alloc),

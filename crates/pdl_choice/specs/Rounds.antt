@@ -12,6 +12,10 @@ use Rattle.pdl_choice.specs.Range.{inner_dims, window_source}
 abbrev pub line_at : Line → ℕ → ℕ
 line_at line c = line.from + line.step * c
 
+-- the place so far past that of an index value's coordinate along a dimension of size n
+abbrev pub counted_place : (size past : ℕ) → (value : ℤ) → ℕ
+counted_place n past value = unwrap_or (from_end value n) 0 + past
+
 -- the place at column c of a row of an index view: the index value's coordinate along the
 -- first dimension, of size n
 abbrev pub row_place : (size : ℕ) → (ind : List ℤ) → (ind_line rest_line : Line) → (column : ℕ) → ℕ

@@ -67,7 +67,7 @@ fn clumped_sizes(alloc: Global, parent: &[u32], joined: usize) -> Result<Vec<u32
 }
 
 /// The places 0 to `count` - 1.
-#[tactic(auto, using(crate::proofs::Listed::range_steps))]
+#[tactic(auto, using(crate::proofs::WhereLists::range_steps))]
 fn all_places(alloc: Global, count: u32) -> Result<Vec<Option<u32>>, NoMemory>
     ensures { IfOk result (λ places. places.items ≡ map (λ p. Some p) (range_with_len 0 count)) }
 {

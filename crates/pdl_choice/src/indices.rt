@@ -1,5 +1,5 @@
 //! index: the parent's first dimension looked up by an array of coordinates.
-ghost use Rattle.std.specs.Prelude.{◌≡◌, ℕ, List, ◌+◌, ◌*◌, ◌∷◌, ◌++◌, map, slice_index_or, ◌≢◌, ◌<◌, ◌≤◌, ◌^◌, OnOk, length, drop, slice_index, All, IsSome, Some, None, Ok, Err, IfOk, IfErr, IfSome, IfNone};
+ghost use Rattle.std.specs.Prelude.{◌≡◌, ℕ, ℤ, List, ◌+◌, ◌*◌, ◌∷◌, ◌++◌, map, slice_index_or, ◌≢◌, ◌<◌, ◌≤◌, ◌^◌, OnOk, length, drop, slice_index, All, IsSome, is_some, Some, None, Ok, Err, IfOk, IfErr, IfSome, IfNone};
 ghost use Rattle.pdl_shape.specs.Joined.{joined_dims};
 ghost use Rattle.std.specs.List.{range_with_len};
 ghost use Rattle.pdl_shape.specs.Shape.{IsDims, IsWithin, extent, extent_limit, size_of, position_of, coordinates_of};
@@ -9,7 +9,7 @@ ghost use Rattle.pdl_shape.specs.Places.{AllBelow, places_of};
 ghost use Rattle.pdl_shape.specs.Refusals.{Refuses, named};
 ghost use Rattle.pdl_shape.specs.Refusals.{refusal_of as shape_refusal};
 ghost use Rattle.pdl_choice.specs.Choice.{Makes, position_in, refusal_of, refusal_past};
-ghost use Rattle.pdl_choice.specs.Rounds.{line_at, row_place};
+ghost use Rattle.pdl_choice.specs.Rounds.{counted_place, line_at, row_place};
 ghost use Rattle.pdl_choice.specs.Index.{first_outside, index_dims, index_outside, index_source};
 
 use crate::rounds::{first_size, move_on, rounds_of};
@@ -141,8 +141,25 @@ fn first_uncounted(size: u32, ind: &[i64]) -> Option<usize>
     ensures none { IfNone result (All (λ value. IsSome (from_end value size)) ind.now) }
     ensures first { result ≡ first_outside size ind.now }
 {
-    ind.iter()
-        .position(|value| from_end(*value, size as usize).is_none())
+    ind.iter().position(|value| !is_counted(*value, size))
+}
+
+/// Whether a value stands for a coordinate of a dimension of size `size`.
+fn is_counted(value: i64, size: u32) -> bool
+    ensures { result ≡ is_some (from_end value size) }
+{
+    let size = i64::from(size);
+    -size <= value && value < size
+}
+
+/// The coordinate that a value stands for in a dimension of size `size`.
+fn counted(value: i64, size: u32) -> u32
+    requires { IsSome (from_end value size) }
+    ensures value { from_end value size ≡ Some result }
+    ensures bound { result < size }
+{
+    let from = if value < 0 { i64::from(size) } else { 0 };
+    (from + value) as u32
 }
 
 /// The position in an array of dimensions `dims` that coordinates of a broadcast use.
@@ -203,17 +220,42 @@ fn push_row(
     ensures { let place = λ (c : ℕ). Some (row_place size ind.now ind_line rest_line c) in
         OnOk result (places.new.items ≡ places.old.items ++ map place (range_with_len 0 row)) }
 {
+    // Values that follow one another are placed in one run, for which room is made once.
+    if row > 0 && ind_line.step == 1 && rest_line.step == 0 {
+        let from = ind_line.from as usize;
+        let values = &ind[from..from + row as usize];
+        return push_values(places, size, values, size * rest_line.from);
+    }
     for column in 0..row {
         let value = ind[(ind_line.from + ind_line.step * column) as usize];
-        match from_end(value, size as usize) {
-            Some(first) => {
-                let rest = size * (rest_line.from + rest_line.step * column);
-                places.push(Some(first as u32 + rest))?;
-            }
-            None => unreachable!(),
-        }
+        let rest = size * (rest_line.from + rest_line.step * column);
+        places.push(Some(counted(value, size) + rest))?;
     }
     Ok(())
+}
+
+/// Adds the places of these index values, so far past those of their coordinates.
+fn push_values(
+    places: &mut Vec<Option<u32>>,
+    size: u32,
+    values: &[i64],
+    past: u32,
+) -> Result<(), NoMemory>
+    requires counted { All (λ value. IsSome (from_end value size)) values.now }
+    requires small { past + size ≤ extent_limit }
+    ensures { let place = λ (value : ℤ). Some (counted_place size past value) in
+        OnOk result (places.new.items ≡ places.old.items ++ map place values.now) }
+{
+    places.extend(values.iter().map(|value| value_place(*value, size, past)))
+}
+
+/// The place of an index value, so far past that of its coordinate.
+fn value_place(value: i64, size: u32, past: u32) -> Option<u32>
+    requires counted { IsSome (from_end value size) }
+    requires small { past + size ≤ extent_limit }
+    ensures { result ≡ Some (counted_place size past value) }
+{
+    Some(counted(value, size) + past)
 }
 
 /// The places in a parent of dimensions `parent` of all `count` positions of the view, whose

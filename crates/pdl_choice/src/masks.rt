@@ -26,7 +26,7 @@ pub fn which_places(alloc: Global, mask: &[i64]) -> Result<Positions, NoMemory>
     Ok(Positions::new(set_positions(alloc, mask)?))
 }
 
-#[tactic(auto, using(crate::proofs::Listed::which_steps))]
+#[tactic(auto, using(crate::proofs::WhereLists::which_steps))]
 fn set_positions(alloc: Global, mask: &[i64]) -> Result<Vec<u32>, NoMemory>
     requires { length mask.now < 2 ^ 32 }
     ensures { IfOk result (λ places. places.items ≡ which mask.now) }
@@ -41,7 +41,7 @@ fn set_positions(alloc: Global, mask: &[i64]) -> Result<Vec<u32>, NoMemory>
 }
 
 /// How many numbers of `mask` aren't 0.
-#[tactic(auto, using(crate::proofs::Listed::which_counts))]
+#[tactic(auto, using(crate::proofs::WhereLists::which_counts))]
 fn set_count(mask: &[i64]) -> usize
     ensures bound { result ≤ length mask.now }
     ensures count { result ≡ length (which mask.now) }

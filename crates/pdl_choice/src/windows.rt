@@ -100,7 +100,7 @@ fn ranged(
 }
 
 /// How many numbers a corner has, and the dimensions of the array of corners.
-#[tactic(auto, using(crate::proofs::Cornered::first_corner))]
+#[tactic(auto, using(crate::proofs::RangeCorners::first_corner))]
 fn corner_dims(ind_dims: &[u32]) -> (usize, &[u32])
     ensures count { result.0 ≡ corner_len ind_dims.now }
     ensures outer { result.1.now ≡ drop 1 ind_dims.now }

@@ -78,9 +78,9 @@ abbrev pub limit_of : ℕ → List Lexeme → ℕ
 limit_of l ts = if many l then length ts else 1
 
 -- the sign of an assignment
-abbrev pub sign_at : List Lexeme → Read (Option BinaryOp)
-sign_at [] = None
-sign_at (s ∷ ts) = option_map (λ op. (op, ts)) (assigned s)
+abbrev pub assign_sign_at : List Lexeme → Read (Option BinaryOp)
+assign_sign_at [] = None
+assign_sign_at (s ∷ ts) = option_map (λ op. (op, ts)) (assigned s)
 
 -- `$SIZE(word)`
 abbrev pub closed_word : Span × List Lexeme → Read Span
@@ -171,7 +171,7 @@ chain_at inner l (suc k) t ts =
     (operator_at l ts)
 
 module _ (f : Kind → List Lexeme → Read RawTree) where
-  -- one index
+  -- one index, `word => expression`
   abbrev pub index_at : List Lexeme → Read RawIndices
   index_at ts =
       option_and_then (λ w. option_map (λ x. (along w.0 x.0 none, x.1)) (f expression w.1))
@@ -251,11 +251,11 @@ declaration_at d = option_map (λ x. (keep (New d.ty d.word) None x.0, x.1)) (in
 -- an assignment to a word
 abbrev pub set_sign : Span × List Lexeme → Read RawStep
 set_sign w = option_and_then (λ s. option_map (λ x. (keep (Named w.0) s.0 x.0, x.1)) (ended_at s.1))
-    (sign_at w.1)
+    (assign_sign_at w.1)
 
 abbrev pub put_sign : (Span × RawIndices × ℕ) × List Lexeme → Read RawStep
 put_sign a = option_and_then (λ s. option_map (λ x. (put (called a.0.0 a.0.2) a.0.1 s.0 x.0, x.1))
-    (ended_at s.1)) (sign_at a.1)
+    (ended_at s.1)) (assign_sign_at a.1)
 
 -- an assignment to an access
 unfoldable pub put_at : List Lexeme → Read RawStep
@@ -265,7 +265,7 @@ unfoldable pub assignment_at : List Lexeme → Read RawStep
 assignment_at ts = either (put_at ts) set_sign (word_at ts)
 
 module _ (g : List Lexeme → Read RawCode) where
-  -- code and `%}`
+  -- code up to its `%}`, past which it goes on
   unfoldable pub block_at : List Lexeme → Read RawCode
   block_at ts = option_and_then (λ x. option_map (λ us. (x.0, us)) (after BlockClose x.1)) (g ts)
 

@@ -48,7 +48,7 @@ abbrev mutual
   IsTreeFit s n (binary op x y) = IsTreeFit s n x × IsTreeFit s n y
 
   -- indices of an argument with so many dimensions
-  pub AreIndicesFit : Signature → ℕ → ℕ → Indices → Type 0
+  pub AreIndicesFit : Signature → (locals rank : ℕ) → Indices → Type 0
   AreIndicesFit s n rank none = Unit {0}
   AreIndicesFit s n rank (along k e rest) = (k < rank) × IsTreeFit s n e ×
       AreIndicesFit s n rank rest

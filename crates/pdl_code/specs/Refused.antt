@@ -95,8 +95,8 @@ slot_of _ = 0
 abbrev pub no_local : Local
 no_local = record { word = record { from = 0; to = 0 }; ty = Longlong }
 
-abbrev pub type_at : List Local → ℕ → LocalType
-type_at locals k = (get_or locals k no_local).ty
+abbrev pub type_of_local : List Local → ℕ → LocalType
+type_of_local locals k = (get_or locals k no_local).ty
 
 -- the argument of a number, where there is one
 abbrev pub argument_at : Signature → Option ℕ → SigArg
@@ -127,7 +127,8 @@ module _ (source : List ℕ) (s : Signature) where
     tree_wrongs c (unary op e) = tree_wrongs c e
     tree_wrongs c (binary op x y) = tree_wrongs c x ++ tree_wrongs c y
 
-    pub index_wrongs : Scope → List ℕ → List Bool → ℕ → RawIndices → List KernelFault
+    pub index_wrongs : Scope → (dims : List ℕ) → (given : List Bool) → (close : ℕ) → RawIndices
+        → List KernelFault
     index_wrongs c ds given at none = when (lacks c.loops ds 0 given) (UnknownDim at)
     index_wrongs c ds given at (along w e rest) =
         let k = axis_of s ds (bytes_of source w) in
@@ -165,7 +166,7 @@ module _ (source : List ℕ) (s : Signature) where
     tree_code c (unary op e) = unary op (tree_code c e)
     tree_code c (binary op x y) = binary op (tree_code c x) (tree_code c y)
 
-    pub index_code : Scope → List ℕ → List Bool → RawIndices → Indices
+    pub index_code : Scope → (dims : List ℕ) → (given : List Bool) → RawIndices → Indices
     index_code c ds given none = looped ds 0 given
     index_code c ds given (along w e rest) =
         let k = axis_of s ds (bytes_of source w) in
@@ -182,7 +183,7 @@ module _ (source : List ℕ) (s : Signature) where
         keep (record { slot = length c.locals; ty = ty }) op (tree_code c e)
     step_code c (keep (Named w) op e) =
         let k = slot_of (meant source s c.locals w) in
-        keep (record { slot = k; ty = type_at c.locals k }) op (tree_code c e)
+        keep (record { slot = k; ty = type_of_local c.locals k }) op (tree_code c e)
     step_code c (put o is op e) =
         put (or_zero (named_argument o.name))
         (index_code c (argument_at s (named_argument o.name)).dims no_flags is) op (tree_code c e)

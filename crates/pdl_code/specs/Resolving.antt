@@ -7,7 +7,7 @@ use Rattle.pdl_code.specs.declared.lexeme.Span.{Span}
 use Rattle.pdl_code.specs.declared.names.Target.TheVariants.{New, Named}
 use Rattle.pdl_code.specs.Tree.{Tree, Indices, Step, Code, number, size, access, unary, binary, along, repeat, choose, keep, put, done, next, RawTree, RawIndices, RawStep, RawCode, named, none}
 use Rattle.pdl_code.specs.Scope.{Scope, axis_of, bytes_of, meant, no_flags, within}
-use Rattle.pdl_code.specs.Refused.{answer, argument_at, axis_wrong, type_at, is_input, lacks, loop_wrong, looped, mark, meant_tree, named_argument, named_dim, no_dim, or_zero, primary_wrong, scope_after, slot_of, target_wrong, when}
+use Rattle.pdl_code.specs.Refused.{answer, argument_at, axis_wrong, type_of_local, is_input, lacks, loop_wrong, looped, mark, meant_tree, named_argument, named_dim, no_dim, or_zero, primary_wrong, scope_after, slot_of, target_wrong, when}
 
 infixl 10 ◌>>=◌
 abbrev pub ◌>>=◌ : {A B : Type 0} → Result A KernelFault → (A → Result B KernelFault) →
@@ -50,7 +50,8 @@ module _ (source : List ℕ) (s : Signature) where
     resolve_tree c (binary op x y) =
         resolve_tree c x >>= λ a. resolve_tree c y >>= λ b. Ok (binary op a b)
 
-    pub resolve_indices : Scope → List ℕ → List Bool → ℕ → RawIndices → Result Indices KernelFault
+    pub resolve_indices : Scope → (dims : List ℕ) → (given : List Bool) → (close : ℕ) → RawIndices
+        → Result Indices KernelFault
     resolve_indices c ds given at none =
         answer (when (lacks c.loops ds 0 given) (UnknownDim at)) (looped ds 0 given)
     resolve_indices c ds given at (along w e rest) =
@@ -75,7 +76,7 @@ module _ (source : List ℕ) (s : Signature) where
         answer (target_wrong w (meant source s c.locals w))
         (slot_of (meant source s c.locals w)) >>= λ k.
         resolve_tree c e >>= λ x.
-        Ok (keep (record { slot = k; ty = type_at c.locals k }) op x)
+        Ok (keep (record { slot = k; ty = type_of_local c.locals k }) op x)
     resolve_step c (put o is op e) =
         known o.name (named_argument source s o.name)
         (checked (when (is_input (argument_at s (named_argument source s o.name)).role)

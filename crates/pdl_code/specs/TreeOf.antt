@@ -38,7 +38,7 @@ abbrev pub index_of : {W A D : _} → Entry W A D → AnyTree W A D
 index_of (Given d e) = tree_of e
 index_of (Looped d w) = named w
 
--- the indices of a list
+-- the indices that a list has, in its order, as a tree
 abbrev pub indices_of : {W A D : _} → List (Entry W A D) → AnyIndices W A D
 indices_of [] = none
 indices_of (g ∷ rest) = entry_of g (indices_of rest)
@@ -56,7 +56,7 @@ abbrev mutual
   code_row end_of-Stmt = done
   code_row (more_of-Stmt s rest) = next (step_of s) (code_row rest)
 
--- the code of a list
+-- the statements of a list, in its order, as a tree
 abbrev pub code_of : {W A D S : _} → List (Stmt W A D S) → AnyCode W A D S
 code_of [] = done
 code_of (s ∷ rest) = next (step_of s) (code_of rest)

@@ -3,7 +3,7 @@ ghost use Rattle.std.specs.Prelude.{◌≡◌, ◌≤◌, ◌++◌, ◌∷◌, [
 ghost use Rattle.pdl_code.specs.declared.names.Target.TheVariants.{New, Named};
 ghost use Rattle.pdl_code.specs.Tree.{keep, put};
 ghost use Rattle.pdl_code.specs.TreeOf.{code_of, indices_of, tree_of, step_of};
-ghost use Rattle.pdl_code.specs.Refused.{answer, code_code, code_declares, code_wrongs, loop_wrong, or_zero, scope_after, step_declares, type_at};
+ghost use Rattle.pdl_code.specs.Refused.{answer, code_code, code_declares, code_wrongs, loop_wrong, or_zero, scope_after, step_declares, type_of_local};
 ghost use Rattle.pdl_code.specs.Resolving.{Agrees, resolve_code, resolve_step};
 ghost use Rattle.pdl_code.specs.Scope.{Scope, bytes_of, dim_place, top};
 
@@ -18,8 +18,8 @@ use pdl_sig::{MOST_DIM_NAMES, Signature};
 use std::alloc::Global;
 
 // The declared type of a local.
-fn type_at(locals: &[Local], k: usize) -> LocalType
-    ensures { result ≡ type_at locals.now k }
+fn type_of_local(locals: &[Local], k: usize) -> LocalType
+    ensures { result ≡ type_of_local locals.now k }
 {
     match locals.get(k) {
         Some(local) => local.ty,
@@ -27,7 +27,7 @@ fn type_at(locals: &[Local], k: usize) -> LocalType
     }
 }
 
-/// A declaration.
+/// A local gets the next slot, which its own first value doesn't see.
 fn declaration(
     alloc: Global,
     source: &[u8],
@@ -52,7 +52,7 @@ fn declaration(
     Ok(Stmt::Keep(Kept { slot, ty }, op, e))
 }
 
-/// An assignment to a word.
+/// An assignment to a visible local. A dimension's word is refused as an input is.
 fn word_assignment(
     alloc: Global,
     source: &[u8],
@@ -69,7 +69,7 @@ fn word_assignment(
     match meaning(source, signature, locals, word) {
         Meant::InSlot(k) => {
             let e = tree(alloc, source, signature, locals, loops, expr)?;
-            let ty = type_at(locals, k);
+            let ty = type_of_local(locals, k);
             Ok(Stmt::Keep(Kept { slot: k, ty }, op, e))
         }
         Meant::Dim(_) => Err(KernelFault::WriteToInput { at: word.from }),
@@ -106,7 +106,7 @@ fn store(
     }
 }
 
-/// An assignment to an access.
+/// An assignment to an element of an argument. One that the signature only reads is refused.
 fn access_assignment(
     alloc: Global,
     source: &[u8],
@@ -242,7 +242,7 @@ fn block(
 }
 
 /// The code of a text's tree, or its first refusal in the order of the text.
-#[tactic(auto, using(crate::proofs::Refusing::code_law))]
+#[tactic(auto, using(crate::proofs::RefusedLemmas::code_law))]
 pub fn resolved(
     alloc: Global,
     source: &[u8],

@@ -45,7 +45,7 @@ pub fn access_expr<W, A, D>(argument: A, given: Vec<Entry<W, A, D>>) -> Expr<W, 
 }
 
 /// One index more.
-#[tactic(auto, using(crate::proofs::Joins::entry_push))]
+#[tactic(auto, using(crate::proofs::JoinLemmas::entry_push))]
 pub fn with_entry<W: Drop, A: Drop, D: Drop>(
     mut found: Vec<Entry<W, A, D>>,
     entry: Entry<W, A, D>,
@@ -58,7 +58,7 @@ pub fn with_entry<W: Drop, A: Drop, D: Drop>(
 }
 
 /// One statement more.
-#[tactic(auto, using(crate::proofs::Joins::code_push))]
+#[tactic(auto, using(crate::proofs::JoinLemmas::code_push))]
 pub fn with_stmt<W: Drop, A: Drop, D: Drop, S: Drop>(
     mut code: Vec<Stmt<W, A, D, S>>,
     stmt: Stmt<W, A, D, S>,

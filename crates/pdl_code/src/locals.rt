@@ -82,7 +82,7 @@ fn code_locals(
 }
 
 /// How many locals are visible at once, at most, where no declared word is refused.
-#[tactic(auto, using(crate::proofs::Declared::code_law))]
+#[tactic(auto, using(crate::proofs::DeclaringLemmas::code_law))]
 pub fn declared(
     alloc: Global,
     source: &[u8],

@@ -66,7 +66,7 @@ pub type Expr = tree::Expr<Variable, usize, usize>;
 /// A statement.
 pub type Stmt = tree::Stmt<Variable, usize, usize, Kept>;
 
-/// The code of a kernel.
+/// The code of a kernel, with its names found.
 #[derive(Drop)]
 pub struct KernelCode {
     pub stmts: Items<Stmt>,

@@ -1,6 +1,6 @@
 //! Looks at the front of what is left, each with what follows.
 ghost use Rattle.std.specs.Prelude.{◌≡◌, option_map};
-ghost use Rattle.pdl_code.specs.CodeReading.{after, after_word, after_name, access_name, after_close, after_condition, after_else, after_if, bracketed_word, close_at, declared_at, ends, generic_at, index_word, loop_at, name_at, operator_at, plain_at, prefix_at, sign_at, size_at, type_at, type_word_at, word_at};
+ghost use Rattle.pdl_code.specs.CodeReading.{after, after_word, after_name, access_name, after_close, after_condition, after_else, after_if, bracketed_word, close_at, declared_at, ends, generic_at, index_word, loop_at, name_at, operator_at, plain_at, prefix_at, assign_sign_at, size_at, type_at, type_word_at, word_at};
 
 use crate::left::Lexemes;
 use crate::lexeme::{Lexeme, NameKind, Span, WordKind};
@@ -102,7 +102,7 @@ pub fn prefix<'a>(tokens: &Lexemes<'a>) -> Option<(UnaryOp, Lexemes<'a>)>
     }
 }
 
-/// An operator of a level.
+/// The operator at the front, if it is of this level.
 pub fn operator<'a>(level: u8, tokens: &Lexemes<'a>) -> Option<(BinaryOp, Lexemes<'a>)>
     ensures read { result ≡ operator_at level tokens.now }
 {
@@ -120,7 +120,7 @@ pub fn operator<'a>(level: u8, tokens: &Lexemes<'a>) -> Option<(BinaryOp, Lexeme
 
 /// The sign of an assignment: the operator before its `=`, if any.
 pub fn sign<'a>(tokens: &Lexemes<'a>) -> Option<(Option<BinaryOp>, Lexemes<'a>)>
-    ensures read { result ≡ sign_at tokens.now }
+    ensures read { result ≡ assign_sign_at tokens.now }
 {
     match tokens.split_first() {
         Some((Lexeme::Equals, rest)) => Some((None, rest)),

@@ -110,7 +110,7 @@ pub fn axis(source: &[u8], signature: &Signature, dims: &[u8], word: Span) -> Op
     }
 }
 
-/// The slot of a word's local.
+/// The slot of the local that a word names, if one is visible.
 pub fn slot(source: &[u8], locals: &[Local], word: Span) -> Option<usize>
     ensures { result ≡ slot_in source.now locals.now (bytes_of source.now word) }
 {

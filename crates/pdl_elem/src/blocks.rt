@@ -57,7 +57,7 @@ fn first_zero(numbers: &[i64]) -> Option<usize>
 }
 
 /// Where the operator divides, the place of the first divisor 0.
-fn first_refused(op: BinaryOp, divisors: &[i64]) -> Option<usize>
+pub fn first_refused(op: BinaryOp, divisors: &[i64]) -> Option<usize>
     ensures place { result ≡ zero_at op divisors.now }
     ensures none { IfNone result (IsTrue (divides op) → All (λ y. y ≢ pos 0) divisors.now) }
 {
@@ -68,21 +68,16 @@ fn first_refused(op: BinaryOp, divisors: &[i64]) -> Option<usize>
 }
 
 /// Each element of `into` becomes `a op b` at the type, for the two numbers of the type at its
-/// place. The three are as long. Where the operator divides and some divisor is 0, it answers the
-/// place of the first one, and `into` stays.
-pub fn binary_all(op: BinaryOp, ty: Ty, a: &[i64], b: &[i64], into: &mut [i64]) -> Result<(), usize>
+/// place. The three are as long. Where the operator divides, no divisor is 0.
+pub fn apply_all(op: BinaryOp, ty: Ty, a: &[i64], b: &[i64], into: &mut [i64])
     requires left { length a.now ≡ length into.old }
     requires right { length b.now ≡ length into.old }
     requires left_in_range { All (InRange ty) a.now }
     requires right_in_range { All (InRange ty) b.now }
-    ensures value { OnOk result (into.new ≡ pairwise (value_of op ty) a.now b.now) }
-    ensures in_range { OnOk result (All (InRange (binary_result op ty ty)) into.new) }
-    ensures refused { result_err result ≡ zero_at op b.now }
-    ensures kept { OnErr result (into.new ≡ into.old) }
+    requires divisors { IsTrue (divides op) → All (λ y. y ≢ pos 0) b.now }
+    ensures value { into.new ≡ pairwise (value_of op ty) a.now b.now }
+    ensures in_range { All (InRange (binary_result op ty ty)) into.new }
 {
-    if let Some(place) = first_refused(op, b) {
-        return Err(place);
-    }
     match op {
         BinaryOp::Add => pairs_at::<ToAdd>(ty, a, b, into),
         BinaryOp::Sub => pairs_at::<ToSub>(ty, a, b, into),
@@ -101,6 +96,24 @@ pub fn binary_all(op: BinaryOp, ty: Ty, a: &[i64], b: &[i64], into: &mut [i64]) 
         BinaryOp::Or => pairs_at::<ToOr>(ty, a, b, into),
         BinaryOp::Xor => pairs_at::<ToXor>(ty, a, b, into),
     }
+}
+
+/// `apply_all`, but where the operator divides and some divisor is 0, it answers the place of the
+/// first one, and `into` stays.
+pub fn binary_all(op: BinaryOp, ty: Ty, a: &[i64], b: &[i64], into: &mut [i64]) -> Result<(), usize>
+    requires left { length a.now ≡ length into.old }
+    requires right { length b.now ≡ length into.old }
+    requires left_in_range { All (InRange ty) a.now }
+    requires right_in_range { All (InRange ty) b.now }
+    ensures value { OnOk result (into.new ≡ pairwise (value_of op ty) a.now b.now) }
+    ensures in_range { OnOk result (All (InRange (binary_result op ty ty)) into.new) }
+    ensures refused { result_err result ≡ zero_at op b.now }
+    ensures kept { OnErr result (into.new ≡ into.old) }
+{
+    if let Some(place) = first_refused(op, b) {
+        return Err(place);
+    }
+    apply_all(op, ty, a, b, into);
     Ok(())
 }
 

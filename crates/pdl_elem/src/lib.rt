@@ -12,11 +12,15 @@ mod strings;
 mod tables;
 mod words;
 
-pub use blocks::{binary_all, unary_all, wrap_all};
+pub use blocks::{apply_all, binary_all, first_refused, unary_all, wrap_all};
 pub use items::Items;
-pub use laws::{operator_laws, wrapping_laws};
+pub use known::{
+    KnownOp, ToAdd, ToAnd, ToDiv, ToEq, ToGe, ToGt, ToLe, ToLt, ToMul, ToNe, ToOr, ToRem, ToShl,
+    ToShr, ToSub, ToXor,
+};
+pub use laws::{block_laws, operator_laws, wrapping_laws};
 pub use naming::{type_name, type_named, type_word};
-pub use operators::{binary, binary_type, promote, unary, unary_type, wrap};
+pub use operators::{apply, binary, binary_type, promote, unary, unary_type, wrap};
 pub use strings::{Name, Text};
 pub use tables::found_in;
 

@@ -5,7 +5,7 @@ ghost use Rattle.pdl_elem.specs.Types.{name_of, type_named, type_word};
 use crate::Ty;
 use crate::tables::found_in;
 
-/// The types by their words.
+/// The types by their words, in the order of their ranks.
 const TYPE_WORDS: &[(&[u8], Ty)] = &[
     (b"sbyte", Ty::Sbyte),
     (b"byte", Ty::Byte),

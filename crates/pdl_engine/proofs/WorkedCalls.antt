@@ -25,8 +25,8 @@ use Rattle.pdl_engine.specs.Looks.{array_numbers}
 use Rattle.pdl_engine.specs.Resting.{IsResting}
 use Rattle.pdl_engine.specs.State.{State, AreWaiting, IsLazy, Joins, OthersWait, PathIsFresh, SameArrays, StayFresh, TargetIsFresh, TargetWaits, base, is_fresh, kept_back, ready_steps, target, waiting, waiting_at}
 use Rattle.pdl_engine.specs.Worked.{Asks, Call, IsSpare, IsWorked, MayBeLent, assign, but_of, is_exact, is_lent, lent_beside, make, ready, release, reshape as reshaped, sever, state_after, stay_fresh, steps_of, view, with_root, with_settled}
-use Rattle.pdl_engine.proofs.Pending.{all_listed, apart_left, apart_then, append_first, append_second, but_kept, but_taken, filter_listed, listed_append, listed_filter, waits_here, waits_left, waits_there}
-use Rattle.pdl_engine.proofs.RootsSeen.{base_root, live_has, live_some, look_past, root_below, root_here, root_past, root_root, root_stays, seen_live, some_live, through_some, view_here}
+use Rattle.pdl_engine.proofs.StatePending.{all_listed, apart_left, apart_then, append_first, append_second, but_kept, but_taken, filter_listed, listed_append, listed_filter, waits_here, waits_left, waits_there}
+use Rattle.pdl_engine.proofs.WorldRootsSeen.{base_root, live_has, live_some, look_past, root_below, root_here, root_past, root_root, root_stays, seen_live, some_live, through_some, view_here}
 
 -- what a call leaves, but for the steps: the arrays as in this state, and those can be lent that it lends
 record Leaves (left : State) (stay : List ℕ) (new : State) : Type 0 where

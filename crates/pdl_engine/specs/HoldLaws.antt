@@ -28,7 +28,7 @@ StayingCount =
     (t : ℕ → Bool) (hs : List (ℕ × ℕ)) (u : ℕ)
     → count_at (staying t hs) u ≡ (if t u then count_at hs u else 0)
 
--- what is counted is held
+-- an array with a count above 0 is among those that are held
 abbrev pub CountedAreHeld : Type 0
 CountedAreHeld =
     (hs : List (ℕ × ℕ)) (u : ℕ) → 0 < count_at hs u → is_listed (held_among hs) u ≡ true

@@ -19,7 +19,7 @@ pub record State : Type 0 where
   pub holds : List (ℕ × ℕ)
   pub next : ℕ
 
--- no arrays
+-- no arrays, of which the first one will have the number 0
 abbrev pub no_arrays : State
 no_arrays = record { world = []; fresh = []; pending = []; holds = []; next = 0 }
 

@@ -1,6 +1,7 @@
 //! The engine and its calls.
-ghost use Rattle.std.specs.Prelude.{◌≡◌, ◌≢◌, ◌↔◌, ℕ, ℤ, List, ◌+◌, ◌<◌, ◌≤◌, ◌^◌, if◌then◌else◌, nat_lt, true, false, length, All, IfOk, IfErr, IfSome, IsTrue, OnOk, OnErr, Ok, Some, None, is_ok, is_some, option_map, ◌==◌};
+ghost use Rattle.std.specs.Prelude.{◌≡◌, ◌≢◌, ◌↔◌, ℕ, ℤ, List, ◌+◌, ◌<◌, ◌≤◌, ◌^◌, if◌then◌else◌, nat_lt, true, false, length, map, All, IfOk, IfErr, IfSome, IsTrue, OnOk, OnErr, Ok, Some, None, is_ok, is_some, option_map, ◌==◌};
 ghost use Rattle.pdl_numbers.specs.Typed.{count_moved};
+ghost use Rattle.pdl_numbers.specs.Updates.{Suits, updated};
 ghost use Rattle.pdl_buf.specs.Made.{IsMade};
 ghost use Rattle.pdl_elem.specs.Types.{InRange};
 ghost use Rattle.pdl_shape.specs.Shape.{IsDims, size_of};
@@ -33,6 +34,7 @@ use pdl_nodes::{
     Holds, Layout, Origin, RelayFault as ReshapeFault, Table, ViewFault, insert, layout, root_node,
     row_laws, view_node,
 };
+use pdl_numbers::Update;
 use pdl_shape::{Dims, dims_list, shape_laws, triple_laws};
 use pdl_world::{
     MOST_VIEWS, Trans, assignment_laws, cut_laws, growth_laws, part_laws, repeat_laws,
@@ -359,6 +361,44 @@ impl Engine {
         row_laws();
         part_laws();
         pdl_push::assign(&mut self.table, id, first, values, steps)
+    }
+
+    /// Whether the base of an array is its root, so that its elements stand there.
+    pub fn stands_in_root(&self, id: ArrayId) -> bool
+        requires { IsLive self.now.world id }
+        ensures { let w = self.now.world in result ≡ true ↔ base w id ≡ root_of w id }
+    {
+        row_laws();
+        let node = self.table.node(id);
+        node.base() == node.root()
+    }
+
+    /// Each element of an array becomes an operator's value on it and one number, which is of its
+    /// type and no divisor 0. The array is one that can be lent, its base is its root, and it shows
+    /// no place twice. Else it is as `assign` of these values: they are put where the elements
+    /// stand, in one pass. It takes a step for each, and no memory. The array can be lent
+    /// afterwards.
+    pub fn update<L: Ledger>(&mut self, id: ArrayId, change: Update, steps: &mut Steps<L>)
+        requires live { IsLive self.old.world id }
+        requires fresh { is_fresh self.old id ≡ true }
+        requires over_root { base self.old.world id ≡ root_of self.old.world id }
+        requires once { has_repeats (places_in self.old.world id) ≡ false }
+        requires suits { Suits (ty_in self.old.world id) change }
+        ensures world { let w = self.old.world in
+            let values = map (updated (ty_in w id) change) (elements w id) in
+            self.new.world ≡ assign w id values }
+        ensures holds { self.new.holds ≡ self.old.holds }
+        ensures next { self.new.next ≡ self.old.next }
+        ensures others { (u : ℕ) → (root_of self.old.world u ≡ root_of self.old.world id → ⊥)
+            → is_fresh self.old u ≡ true → is_fresh self.new u ≡ true }
+        ensures sound { IsSound self.new.world }
+        ensures target { TargetIsFresh self.old id self.new }
+        ensures waits { TargetWaits self.old id self.new }
+        ensures counted { steps.new ≡ steps.old + size_of (dims_in self.old.world id) }
+    {
+        row_laws();
+        part_laws();
+        pdl_push::update(&mut self.table, id, change, steps)
     }
 
     /// Puts these elements at the positions of a root, as `assign` does. They are taken over as they

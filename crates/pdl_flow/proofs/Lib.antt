@@ -1,1 +1,1 @@
-pub mod Meanings
+pub mod MeaningLemmas

@@ -15,7 +15,7 @@ pub data FormulaTree : Type 0 where
   binary : (op : BinaryOp) → (left right : FormulaTree) → FormulaTree
   convert : (ty : Ty) → FormulaTree → FormulaTree
 
--- a formula's tree
+-- a formula without the boxes of its operands
 abbrev pub tree_of : Formula → FormulaTree
 tree_of (Number ty z) = number ty z
 tree_of (Array k) = array k

@@ -131,7 +131,7 @@ pub(crate) fn find_input<'a>(inputs: &'a [Input<'_>], array: u64) -> Option<&'a 
     None
 }
 
-/// Whether an array has an input.
+/// Whether one of the inputs is that of this array.
 pub fn has_input(inputs: &[Input<'_>], array: u64) -> bool
     ensures { result ≡ is_some (input_of inputs.now array) }
 {

@@ -1,5 +1,5 @@
-pub mod Adding
-pub mod Filling
+pub mod AddingLemmas
+pub mod DumpFilling
 pub mod StemLemmas
-pub mod Masking
-pub mod Parts
+pub mod DumpMasks
+pub mod DumpParts

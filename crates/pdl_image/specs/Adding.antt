@@ -49,7 +49,7 @@ abbrev pub mask_part : (first count : ℕ) → (places : List ℕ) → List ℤ
 mask_part first count places =
     map (λ p. if is_in places p then pos 1 else pos 0) (range_with_len first count)
 
--- the numbers that are kept
+-- the numbers of a window, of a list, or of a mask by its places
 abbrev pub kept_numbers : Kept → List ℤ
 kept_numbers (Shown elems) = elems.now.elems
 kept_numbers (Listed numbers) = numbers.now

@@ -77,6 +77,6 @@ line_text (undef_line name) = codes "undef " ++ name
 abbrev pub whole_line : Line → List ℕ
 whole_line line = line_text line ++ codes ";\n"
 
--- the script of lines
+-- lines one after another, each with its end
 abbrev pub script_of : List Line → List ℕ
 script_of lines = flat_map whole_line lines

@@ -93,7 +93,7 @@ impl<'a> Content<'a> {
         }
     }
 
-    /// The numbers of a list.
+    /// The numbers of a list, which is no longer than an array.
     pub fn listed(numbers: &'a [i64]) -> Content<'a>
         requires { length numbers.now < 2 ^ 31 }
         ensures { result ≡ numbers.now }

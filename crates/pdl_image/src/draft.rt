@@ -85,7 +85,7 @@ impl Draft {
         self.page.truncate(mark);
     }
 
-    /// The text.
+    /// The text of all lines that were appended and not taken back.
     pub fn into_text(self) -> Vec<u8>
         ensures { result.items ≡ self }
     {

@@ -118,7 +118,7 @@ impl Page {
         self.leave_line();
     }
 
-    /// The text.
+    /// The text, without the line that was begun last.
     pub fn into_text(self) -> Vec<u8>
         ensures { result.items ≡ self.text }
     {

@@ -44,7 +44,7 @@ pub record Store : Type 0 where
   pub arguments : List Made
   pub locals : List ℤ
 
--- the type of a local
+-- the type at which a local is kept: its word's, or the call's generic one
 abbrev pub local_type : Ty → LocalType → Ty
 local_type generic Long = LongTy
 local_type generic Longlong = LonglongTy

@@ -13,7 +13,7 @@ use Rattle.pdl_sig.specs.Resolution.{is_output, core_sizes, made_for, type_in}
 use Rattle.pdl_kernel.specs.Call.{start_element}
 use Rattle.pdl_kernel.specs.Places.{Window, axes_of, is_written, strides_from}
 
--- the strides of what is given
+-- the stride of each dimension of the array that is given, and none for an output
 abbrev pub given_strides : Option Made → List ℕ
 given_strides None = []
 given_strides (Some g) = strides_from 1 g.dims

@@ -69,7 +69,7 @@ impl Argument {
         self.start
     }
 
-    /// The element at a place.
+    /// The element at a place of the argument's own, and 0 past the last.
     #[inline(always)]
     pub fn element(&self, place: usize) -> i64
         ensures { result ≡ get_or self.now.elems place (pos 0) }

@@ -59,14 +59,15 @@ impl Kernel {
     }
 }
 
-/// The kernel's signature.
+/// The signature, as it was read.
 pub fn kernel_signature(kernel: &Kernel) -> &Signature
     ensures { result.now ≡ kernel.now.signature }
 {
     &kernel.signature
 }
 
-/// The kernel of a signature and a text.
+/// Reads the text of a kernel's code, whose names are those of the signature and its locals, or
+/// says the first fault with its place in the text.
 pub fn read_kernel(alloc: Global, signature: Signature, text: &[u8]) -> Result<Kernel, KernelFault>
     requires well_formed { IsWellFormed signature }
     requires small { length text.now < 2 ^ 32 }

@@ -48,7 +48,7 @@ pub fn assign_in(
     argument.assign_at(op, x, place)
 }
 
-/// The size of a dimension.
+/// The size that the call gives one of the signature's dimensions, and 1 past the last.
 pub fn size_in(resolved: &Resolved, dimension: usize) -> u32
     ensures { result ≡ size_in resolved.now.sizes dimension }
 {
@@ -80,7 +80,7 @@ pub fn set_index(loops: &mut [u32; MOST_DIM_NAMES], dimension: usize, index: u32
     }
 }
 
-/// A local.
+/// The number in the slot of a local, and 0 past the last.
 #[inline(always)]
 pub fn local(scene: &Scene, slot: usize) -> i64
     ensures { result ≡ get_or (store_of scene.now).locals slot (pos 0) }

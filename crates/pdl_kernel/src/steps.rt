@@ -18,7 +18,7 @@ use pdl_elem::{BinaryOp, Ty};
 use pdl_shape::shape_laws;
 use pdl_sig::{MOST_DIM_NAMES, Resolved};
 
-/// The type of a local.
+/// The type at which a local is kept: its word's, or the call's generic one.
 fn local_type(generic: Ty, ty: LocalType) -> Ty
     ensures { result ≡ local_type generic ty }
 {

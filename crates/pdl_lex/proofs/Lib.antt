@@ -1,8 +1,8 @@
-pub mod Cutting
-pub mod Longest
-pub mod Walking
-pub mod Spans
-pub mod Settled
-pub mod Joining
-pub mod Apart
-pub mod Written
+pub mod PiecesCut
+pub mod TokensLongest
+pub mod TokenWalks
+pub mod TokenSpans
+pub mod PiecesSettled
+pub mod JoiningLemmas
+pub mod TokensApart
+pub mod WrittenLemmas

@@ -135,7 +135,7 @@ pub data MeansFrom : (at : ℕ) → List ℕ → Result (List Token) LexFault �
       is_hash b ≡ false → IsLongest 0 (b ∷ bs)
       → MeansFrom at (b ∷ bs) (Err (fault_of at b))
 
--- what a text is
+-- what a text means: its tokens, or the fault of the first byte at which none begins
 abbrev pub Means : (text : List ℕ) → Result (List Token) LexFault → Type 0
 Means text answer = MeansFrom 0 text answer
 

@@ -21,7 +21,7 @@ use std::marker::Model;
 /// Memory was wanting.
 pub type NoMemory = AllocError;
 
-/// What a token is.
+/// The five kinds of token, with the bytes that each has.
 #[derive(Clone, Copy, Debug, PartialEq, Eq)]
 pub enum TokenKind {
     /// `$`, then a letter or `_`, then letters, digits and `_`.

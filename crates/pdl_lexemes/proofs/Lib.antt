@@ -1,11 +1,11 @@
 pub mod ListTurns
 pub mod ListSound
 pub mod ListComplete
-pub mod Ragged
-pub mod Squares
+pub mod ListsRagged
+pub mod SquareLemmas
 pub mod ListDims
 pub mod ListArrays
-pub mod Signs
-pub mod OpenBrackets
-pub mod Found
-pub mod Texts
+pub mod TokenSigns
+pub mod LexingBrackets
+pub mod LexingTables
+pub mod TextLemmas

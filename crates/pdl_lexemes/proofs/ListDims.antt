@@ -11,7 +11,7 @@ use Rattle.pdl_lexemes.specs.declared.refusal.Refusal.{Refusal}
 use Rattle.pdl_lexemes.specs.Squares.{goes_too_deep, AreFew}
 use Rattle.pdl_lexemes.proofs.ListSound.{reader_sound}
 use Rattle.pdl_lemmas.specs.Options.{none_some, some_inj, map_elim}
-use Rattle.pdl_lexemes.proofs.Squares.{passed, few_open}
+use Rattle.pdl_lexemes.proofs.SquareLemmas.{passed, few_open}
 
 -- dimensions that two members share are those of both
 pub shared_is : (a b : Option (List ℕ)) (d : List ℕ) → shared a b ≡ Some d → (a ≡ Some d) × (b ≡ Some d)

@@ -30,7 +30,7 @@ impl<'a> Model for Lexemes<'a> {
 impl<'a> Lexemes<'a> {
     /// All lexemes of a statement. `None` where more than 64 brackets are open at once, more than
     /// 16 square ones, or more than 256 operators stand outside square brackets.
-    #[tactic(auto, using(crate::proofs::Squares::all_few))]
+    #[tactic(auto, using(crate::proofs::SquareLemmas::all_few))]
     pub fn of(list: &'a [Lexeme]) -> Option<Lexemes<'a>>
         requires small { length list.now ≤ statement_limit }
         ensures { result ≡ (if is_too_deep list.now then None else Some list.now) }
@@ -43,7 +43,7 @@ impl<'a> Lexemes<'a> {
     }
 
     /// The first lexeme, and what follows it.
-    #[tactic(auto, using(crate::proofs::Squares::rest_few))]
+    #[tactic(auto, using(crate::proofs::SquareLemmas::rest_few))]
     pub fn split_first(&self) -> Option<(Lexeme, Lexemes<'a>)>
         ensures { self.now ≡ joined result }
     {

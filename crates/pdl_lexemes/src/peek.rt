@@ -73,7 +73,7 @@ impl<'a> Lexemes<'a> {
         }
     }
 
-    /// A number with its sign.
+    /// The number at the front, with a minus before it or none.
     pub fn signed_number(&self) -> Option<(i64, Lexemes<'a>)>
         ensures read { result ≡ signed_number_at self.now }
     {
@@ -139,7 +139,7 @@ impl<'a> Lexemes<'a> {
         }
     }
 
-    /// A name.
+    /// The span of the name at the front, with its `$`.
     pub fn name(&self) -> Option<(Span, Lexemes<'a>)>
         ensures read { result ≡ name_at self.now }
     {

@@ -17,8 +17,8 @@ use Rattle.pdl_machine.specs.Watches.{Watches}
 use Rattle.pdl_machine.specs.Tidy.{older, renumber, renumbered, with_parent}
 use Rattle.pdl_machine.specs.Dumps.{definition, dump_lines, text_within, dumped}
 use Rattle.pdl_machine.specs.DumpLaws.{DumpsNameByNumbers}
-use Rattle.pdl_machine.proofs.Renamed.{IsApart, Renames, empty, same, StateAlike}
-use Rattle.pdl_machine.proofs.Tidying.{renamed, length-renamed, renumber_renamed, names_renamed}
+use Rattle.pdl_machine.proofs.ArraysRenamed.{IsApart, Renames, empty, same, StateAlike}
+use Rattle.pdl_machine.proofs.TidyLemmas.{renamed, length-renamed, renumber_renamed, names_renamed}
 
 -- where these are all arrays, they are the same ones under other numbers
 all_renamed : (g : ℕ → ℕ) {w u : World} → Renames g true w u → u ≡ renamed g w

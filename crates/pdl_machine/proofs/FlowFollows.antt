@@ -30,10 +30,10 @@ use Rattle.pdl_machine.specs.Flows.{Flow, Flows}
 use Rattle.pdl_machine.specs.Following.{given, follow, followed, AreOlder, IsFlow, RootsAbove, AreFlows}
 use Rattle.pdl_machine.specs.DumpableLaws.{ShownAreMade}
 use Rattle.pdl_machine.specs.FlowLaws.{KeepsLooks, FlowsFollow, FlowsRest}
-use Rattle.pdl_machine.proofs.Renamed.{look-other}
+use Rattle.pdl_machine.proofs.ArraysRenamed.{look-other}
 use Rattle.pdl_machine.proofs.FlowLemmas.{meaning_same}
-use Rattle.pdl_machine.proofs.Numbering.{in_world, IsOrderly, orderly_sound}
-use Rattle.pdl_machine.proofs.Quiet.{live_as}
+use Rattle.pdl_machine.proofs.TidyNumbering.{in_world, IsOrderly, orderly_sound}
+use Rattle.pdl_machine.proofs.StepQuiet.{live_as}
 use Rattle.pdl_machine.proofs.FlowMoves.{AreShown, seen_shows, same_shown, flow_moved}
 
 -- the laws that are used here

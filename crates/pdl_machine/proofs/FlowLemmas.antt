@@ -13,7 +13,7 @@ use Rattle.pdl_world.specs.World.{World, ArrayDef, root, view}
 use Rattle.pdl_machine.specs.Arrays.{Arrays, array_in}
 use Rattle.pdl_machine.specs.Flows.{Flow, Flows, is_flow, all_read, without_flow, formula_by, flow_by, is_reached, Needs, needs_with, needs_of}
 use Rattle.pdl_machine.specs.Following.{given, follow, followed}
-use Rattle.pdl_machine.proofs.Renamed.{IsApart, same_test, Renames, AreAlike, holds_renamed, path_renamed, assign_renamed, array_alike}
+use Rattle.pdl_machine.proofs.ArraysRenamed.{IsApart, same_test, Renames, AreAlike, holds_renamed, path_renamed, assign_renamed, array_alike}
 
 abbrev Value : Type 0
 Value = Result Made OpRefusal

@@ -22,9 +22,9 @@ use Rattle.pdl_machine.specs.Following.{AreOlder, IsFlow, RootsAbove, AreFlows}
 use Rattle.pdl_machine.specs.FlowLaws.{FlowsStay}
 use Rattle.pdl_machine.specs.Laws.{AreGrown}
 use Rattle.pdl_machine.proofs.FlowLemmas.{AreSame, meaning_same, first_listed, listed_front, listed_back}
-use Rattle.pdl_machine.proofs.Numbering.{in_world, IsOrderly}
-use Rattle.pdl_machine.proofs.Orderly.{orderly_replaced}
-use Rattle.pdl_machine.proofs.Quiet.{WorldLaws, live_as, look_more, elements_more, path_more, replaced_more, replaced_none, sound_live, unreached}
+use Rattle.pdl_machine.proofs.TidyNumbering.{in_world, IsOrderly}
+use Rattle.pdl_machine.proofs.OutcomeOrder.{orderly_replaced}
+use Rattle.pdl_machine.proofs.StepQuiet.{WorldLaws, live_as, look_more, elements_more, path_more, replaced_more, replaced_none, sound_live, unreached}
 
 -- ---- one flow
 

@@ -20,12 +20,12 @@ use Rattle.pdl_machine.specs.State.{held, needs, kept}
 use Rattle.pdl_machine.specs.Tidy.{settled, tidy}
 use Rattle.pdl_machine.specs.Laws.{PathsReach}
 use Rattle.pdl_machine.specs.FlowLaws.{LettingGoKeepsFlows, TidyingKeepsFlows}
-use Rattle.pdl_machine.proofs.Renamed.{IsApart, Renames, AreAlike, StateAlike, with_root, look_renamed, path_renamed, array_alike}
+use Rattle.pdl_machine.proofs.ArraysRenamed.{IsApart, Renames, AreAlike, StateAlike, with_root, look_renamed, path_renamed, array_alike}
 use Rattle.pdl_machine.proofs.FlowLemmas.{meaning_by, meaning_same, all_same, arrays_by, first_listed, listed_front, listed_back}
-use Rattle.pdl_machine.proofs.Tidying.{renamed}
-use Rattle.pdl_machine.proofs.Numbering.{IsInOrder, in_order, former_numbers, former_rising, swept_is, tidied_alike, all_renamed}
+use Rattle.pdl_machine.proofs.TidyLemmas.{renamed}
+use Rattle.pdl_machine.proofs.TidyNumbering.{IsInOrder, in_order, former_numbers, former_rising, swept_is, tidied_alike, all_renamed}
 use Rattle.pdl_machine.proofs.FlowMoves.{AreShown, seen_shows, flow_moved}
-use Rattle.pdl_machine.proofs.Quiet.{live_as}
+use Rattle.pdl_machine.proofs.StepQuiet.{live_as}
 
 -- ---- what is reached
 

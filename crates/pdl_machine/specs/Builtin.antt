@@ -44,7 +44,7 @@ inquiries =
     (codes "copy", Told Copy) ∷ (codes "nelem", Told Nelem) ∷ (codes "ndims", Told Ndims)
     ∷ (codes "shape", Told Shape) ∷ (codes "which", Told Which) ∷ (codes "dim", Dim) ∷ []
 
--- views
+-- views of an array that stands first
 abbrev pub views : List (List ℕ × Builtin)
 views =
     (codes "slice", Slice) ∷ (nice_word, Nice) ∷ (codes "xchg", Arranged Xchg)

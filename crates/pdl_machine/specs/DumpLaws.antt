@@ -25,7 +25,7 @@ view_by_index =
     ∷ bind (codes "$y") (called (codes "index") (sliced (codes "$x") (codes "0:1")
     ∷ pdl (whole_numbers (1 ∷ 0 ∷ [])) ∷ [])) false ∷ []
 
--- what is dumped after statements
+-- the dump of the state to which statements lead from the empty one
 abbrev pub dumped_after : List StatementTree → Result (List ℕ) Fault
 dumped_after xs = and_then (after_all xs) dumped
 

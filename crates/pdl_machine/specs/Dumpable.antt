@@ -22,7 +22,7 @@ abbrev pub AreEach : {A : Type 0} → (List ℕ → A → Type 0) → Named A �
 AreEach P [] = Unit {0}
 AreEach P (n ∷ names) = P n.0 n.1 × (found names n.0 ≡ None) × AreEach P names
 
--- each name is a name
+-- each name is one that a script can spell, and none stands twice
 abbrev pub AreNames : Named ℕ → Type 0
 AreNames names = AreEach (λ x v. IsName x) names
 

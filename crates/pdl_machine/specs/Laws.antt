@@ -95,7 +95,7 @@ shown_by s x = option_map (array_in s.arrays) (number_of s.names x)
 abbrev pub TidyingShowsTheSame : Type 0
 TidyingShowsTheSame = (s : State) (x : List ℕ) → IsWhole s → shown_by (tidy s) x ≡ shown_by s x
 
--- a statement that assigns
+-- an assignment, the only statement of which watchers hear
 abbrev pub Assigns : StatementTree → Type 0
 Assigns (assign x vs sign e) = Unit {0}
 Assigns _ = ⊥

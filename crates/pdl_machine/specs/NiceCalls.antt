@@ -26,7 +26,7 @@ filled_in (c ∷ cs) ns =
     if c == mark then number_before ns (filled_in cs)
     else option_map (λ text. c ∷ text) (filled_in cs ns)
 
--- a slice by a pattern and its numbers
+-- the slice by the text that a pattern is with these numbers in place of its marks
 abbrev pub slice_by_numbers : (pattern : List ℕ) → List ℤ → Result Outcome Fault
 slice_by_numbers pattern ns = and_then (or_fault WrongArguments (filled_in pattern ns)) slice_by
 

@@ -144,7 +144,7 @@ start terms = record {
   present = terms.present;
 }
 
--- the run of a script
+-- the run of a script: its statements one after another, from no names
 abbrev pub run : Terms → (script : List ℕ) → Progress
 run terms script = after_marks terms (start terms) (script_marks script)
 

@@ -15,7 +15,7 @@ use Rattle.pdl_machine.specs.Worked.{after_all, shown_after, sequence_to, sliced
 abbrev pub live_after : List StatementTree → Result ℕ Fault
 live_after xs = and_then (after_all xs) (λ s. Ok (length s.arrays.world))
 
--- a long array
+-- a new array of type long
 abbrev pub long_array : (dims : List ℕ) → (elems : List ℤ) → Option Made
 long_array ds es = Some (record { ty = Long; dims = ds; elems = es })
 

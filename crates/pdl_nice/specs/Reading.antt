@@ -35,8 +35,8 @@ pub record Front : Type 0 where
 abbrev pub front : Written → List Written → Read → Front
 front c rest x = record { what = x; bar = c; rest = rest }
 
-abbrev pub onto : Read → Front → Front
-onto x y = front y.bar y.rest (joined x y.what)
+abbrev pub headed_by : Read → Front → Front
+headed_by x y = front y.bar y.rest (joined x y.what)
 
 abbrev pub spanning : Read → Front → Front
 spanning x y = front y.bar y.rest (spanned x y.what)
@@ -99,7 +99,7 @@ unfoldable pub arguments_at : ℕ → List Written → Option Front
 arguments_at zero ts = None
 arguments_at (suc k) ts =
     option_and_then (λ x.
-    if is_comma (look x.bar) then option_map (onto x.what) (arguments_at k x.rest)
+    if is_comma (look x.bar) then option_map (headed_by x.what) (arguments_at k x.rest)
     else Some x) (argument_at ts)
 
 -- the arguments up to `)`

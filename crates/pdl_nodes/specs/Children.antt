@@ -60,7 +60,7 @@ abbrev pub left : Rows → (ℕ → Bool) → ℕ → ℕ
 left [] t v = 0
 left ((k, r) ∷ rs) t v = (if t k then one_of (parent_of r) v else 0) + left rs t v
 
--- whether the row of u is a view of v
+-- whether there is a row of u, which has v as its parent
 abbrev pub is_view : Rows → (v u : ℕ) → Bool
 is_view [] v u = false
 is_view ((k, r) ∷ rs) v u = if k == u then is_view_of (parent_of r) v else is_view rs v u

@@ -36,3 +36,4 @@ pub mod RowLaws
 pub mod Quiet
 pub mod Put
 pub mod QuietLaws
+pub mod Updates

@@ -68,7 +68,7 @@ impl Views {
         known.extend(self.others.iter().copied())
     }
 
-    /// Adds a view.
+    /// Adds a view as the newest one. The newest before it takes an entry of the set.
     fn add(&mut self, view: u64) -> Result<(), AllocError>
         requires absent { has_number self.old view ≡ false }
         ensures count { OnOk result (length self.new ≡ length self.old + 1) }

@@ -20,7 +20,7 @@ pub enum ViewFault {
     TooLarge,
     /// The view's path to the root would have more than 64 views.
     TooDeep,
-    /// There was no memory.
+    /// There was no memory. This one may come in place of any other.
     NoMemory,
 }
 

@@ -32,7 +32,7 @@ impl Model for Holds {
 }
 
 impl Holds {
-    /// No holds.
+    /// No array is held, and none is counted as going.
     pub fn new(alloc: Global) -> Holds
         ensures { result ≡ [] }
     {

@@ -4,6 +4,9 @@ ghost use Rattle.std.specs.List.{range_with_len};
 ghost use Rattle.pdl_elem.specs.Types.{InRange};
 ghost use Rattle.pdl_shape.specs.Places.{write};
 ghost use Rattle.pdl_shape.specs.Shape.{extent_limit, size_of};
+ghost use Rattle.pdl_shape.specs.Triple.{Reaches};
+ghost use Rattle.pdl_numbers.specs.Shown.{shown_through};
+ghost use Rattle.pdl_numbers.specs.Updates.{ShowsOnce, Suits, updated};
 ghost use Rattle.pdl_numbers.specs.Writes.{onward, placed_from};
 ghost use Rattle.pdl_nodes.specs.Row.{goal_of, parent_of, is_buffered, shown_of};
 ghost use Rattle.pdl_nodes.specs.Assigned.{seen};
@@ -13,10 +16,10 @@ ghost use Rattle.pdl_nodes.specs.Spots.{spots};
 
 use crate::moves::{OverBase, ThroughBase, are_seen};
 use crate::origin::Origin;
-use pdl_buf::{Buf, Steps, scatter_along, scatter_by, scatter_from, scatter_onward};
+use pdl_buf::{Buf, Steps, scatter_along, scatter_by, scatter_from, scatter_onward, update};
 use pdl_choice::Places;
 use pdl_elem::Ty;
-use pdl_numbers::{Placement, Route};
+use pdl_numbers::{Placement, Route, Update};
 use pdl_shape::{Triple, copy_triple, elements_of};
 use std::alloc::Global;
 use std::marker::Model;
@@ -425,6 +428,31 @@ impl Node {
     {
         let _count = elements_of(&self.triple.dims);
         self.put_from(first, values, steps)
+    }
+
+    /// Each kept element that a triple shows becomes an operator's value on it and one number, where
+    /// it stands. The triple shows none of them twice. It takes a step for each.
+    pub(crate) fn update<L: Ledger>(
+        &mut self,
+        change: Update,
+        triple: &Triple,
+        steps: &mut Steps<L>,
+    )
+        requires buffered { is_buffered self.old ≡ true }
+        requires suits { Suits self.old.ty change }
+        requires once { ShowsOnce triple.now }
+        requires reaches { Reaches triple.now (length self.old.kept) }
+        ensures value { let values = map (updated self.old.ty change)
+            (shown_through triple.now self.old.kept) in
+            let places = placed_from triple.now 0 (size_of triple.now.dims) in
+            self.new ≡ record self.old { kept = write places values self.old.kept } }
+        ensures counted { steps.new ≡ steps.old + size_of triple.now.dims }
+    {
+        let placement = Placement::of(triple);
+        match &mut self.kept {
+            Some(kept) => update(kept, change, &placement, steps),
+            None => unreachable!(),
+        }
     }
 
     /// Takes the places out that are known.

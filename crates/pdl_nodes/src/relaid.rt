@@ -85,7 +85,7 @@ impl Relaid {
 pub enum RelayFault {
     /// The formula of a view refuses the dimensions that its parent would have.
     Breaks,
-    /// There was no memory.
+    /// There was no memory, also where a view would break.
     NoMemory,
 }
 

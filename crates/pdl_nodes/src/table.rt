@@ -16,6 +16,7 @@ ghost use Rattle.pdl_nodes.specs.Renewed.{CanDerive, CanRenew, is_of, layout_at,
 ghost use Rattle.pdl_nodes.specs.Families.{InOrder};
 ghost use Rattle.pdl_nodes.specs.Known.{AreKnown};
 ghost use Rattle.pdl_nodes.specs.Put.{IsWrite, put_in};
+ghost use Rattle.pdl_nodes.specs.Updates.{CanUpdate, updated_at};
 ghost use Rattle.pdl_nodes.specs.Worlds.{IsRoot, latest, shape};
 ghost use Rattle.pdl_nodes.specs.declared.node.Goal.TheVariants.{Root};
 
@@ -26,8 +27,11 @@ use crate::relaid::Relaid;
 use pdl_affine::{view_laws, window_laws};
 use pdl_buf::{Buf, Steps};
 use pdl_choice::Places;
+use pdl_elem::wrapping_laws;
+use pdl_numbers::Update;
 use pdl_registry::Numbered;
 use pdl_shape::{Dims, shape_laws, triple_laws};
+use pdl_world::repeat_laws;
 use slab::Slab;
 use std::alloc::{AllocError, Global};
 use std::collections::BTreeSet;
@@ -280,6 +284,25 @@ impl Table {
         let known = self.nodes[base].take_places();
         self.nodes[into].put(goal, &known, &at.triple, first, values, steps);
         self.nodes[base].set_places(known);
+    }
+
+    /// Each element of an array whose base is its root becomes an operator's value on it and one
+    /// number, where it stands. The array shows no place twice. It takes a step for each. Marks are
+    /// left to the caller.
+    pub fn update<L: Ledger>(&mut self, at: &Shown, change: Update, steps: &mut Steps<L>)
+        requires update { CanUpdate change self.old at.now.id }
+        requires shown { at.now ≡ shown_of at.now.id (row_at self.old at.now.id) }
+        requires over_root { at.now.base ≡ at.now.root }
+        ensures write { IsWrite self.old at.now.id 0 (updated_at change self.old at.now.id) }
+        ensures put { let values = updated_at change self.old at.now.id in
+            self.new ≡ each (put_in Root self.old at.now.id 0 values) self.old }
+        ensures counted { steps.new ≡ steps.old + size_of at.now.triple.dims }
+    {
+        shape_laws();
+        wrapping_laws();
+        repeat_laws();
+        let key = self.keys[at.root];
+        self.nodes[key].update(change, &at.triple, steps);
     }
 
     /// Notes the view that waits in the family of a root, or that none does.

@@ -115,7 +115,7 @@ pub fn let_all(table: &Table, holds: &mut Holds, loose: &[u64], id: u64)
     let_up(table, holds, id);
 }
 
-/// Removes all that has no holds.
+/// Removes the rows without holds: from these arrays up, one start after another.
 pub fn remove_all(table: &mut Table, holds: &mut Holds, loose: &[u64], id: u64)
     requires still { IsStill table.old }
     requires numbers { (v : ℕ) → stands holds.old v ≡ true → has table.old v ≡ true }

@@ -4,4 +4,5 @@ pub mod Numbers
 pub mod Shown
 pub mod Reads
 pub mod Writes
+pub mod Updates
 pub mod Laws

@@ -13,9 +13,12 @@ mod ranges;
 mod reads;
 mod routes;
 mod sums;
+mod updates;
+mod values;
 mod writes;
 
 pub use laws::shown_laws;
 pub use numbers::{Numbers, numbers_of};
 pub use placement::Placement;
 pub use routes::Route;
+pub use updates::Update;

@@ -1,6 +1,8 @@
 //! Numbers of one type, in its width. Each call looks at the type once.
-ghost use Rattle.std.specs.Prelude.{◌≡◌, ◌<◌, ◌≤◌, ◌+◌, ◌^◌, ◌++◌, ℕ, ℤ, [], pos, length, take, drop, map, get_or, slice_set, All, IfOk, OnOk, OnErr};
+ghost use Rattle.std.specs.Prelude.{◌≡◌, ◌≢◌, ◌<◌, ◌≤◌, ◌+◌, ◌^◌, ◌++◌, ℕ, ℤ, [], pos, length, take, drop, map, get_or, slice_set, All, IsTrue, IfOk, OnOk, OnErr};
 ghost use Rattle.std.specs.List.{flat_map, range_with_len};
+ghost use Rattle.pdl_elem.specs.Blocks.{pairwise};
+ghost use Rattle.pdl_elem.specs.Operators.{divides, value_of};
 ghost use Rattle.pdl_elem.specs.Types.{InRange};
 ghost use Rattle.pdl_shape.specs.Places.{AllBelow, read, write};
 ghost use Rattle.pdl_shape.specs.Shape.{extent_limit, size_of};
@@ -10,6 +12,7 @@ ghost use Rattle.pdl_numbers.specs.Bytes.{bytes_of};
 ghost use Rattle.pdl_numbers.specs.Numbers.{elements_in};
 ghost use Rattle.pdl_numbers.specs.Reads.{HasRead, HasReadAcross, LieAcross, across};
 ghost use Rattle.pdl_numbers.specs.Shown.{shown_through};
+ghost use Rattle.pdl_numbers.specs.Updates.{ShowsOnce, Suits, updated};
 ghost use Rattle.pdl_numbers.specs.Writes.{onward, placed_from};
 
 use crate::across::read_across;
@@ -17,8 +20,10 @@ use crate::packed::{AtByte, AtLong, AtLonglong, AtSbyte, AtShort, AtUlong, AtUsh
 use crate::placement::Placement;
 use crate::reads::read_block;
 use crate::routes::Route;
+use crate::updates::{Update, update_shown};
+use crate::values::extend_values;
 use crate::writes::{write_block, write_onward};
-use pdl_elem::Ty;
+use pdl_elem::{BinaryOp, Ty};
 use std::alloc::{AllocError, Global};
 
 /// So many numbers are copied at once.
@@ -67,6 +72,34 @@ impl Numbers {
             Numbers::Longs(packed) => packed.extend(numbers),
             Numbers::Ulongs(packed) => packed.extend(numbers),
             Numbers::Longlongs(packed) => packed.extend(numbers),
+        }
+    }
+
+    /// Puts an operator's values on each two numbers of the type after the others, each as it is
+    /// found. Where the operator divides, none of those on the right is 0.
+    pub fn extend_values(
+        &mut self,
+        op: BinaryOp,
+        left: &[i64],
+        right: &[i64],
+    ) -> Result<(), AllocError>
+        requires paired { length left.now ≡ length right.now }
+        requires left_in_range { All (InRange (elements_in self.old).ty) left.now }
+        requires right_in_range { All (InRange (elements_in self.old).ty) right.now }
+        requires divisors { IsTrue (divides op) → All (λ y. y ≢ pos 0) right.now }
+        ensures ok { let old = elements_in self.old in
+            let values = pairwise (value_of op old.ty) left.now right.now in
+            OnOk result (elements_in self.new ≡ record old { elems = old.elems ++ values }) }
+        ensures err { OnErr result (elements_in self.new ≡ elements_in self.old) }
+    {
+        match self {
+            Numbers::Sbytes(packed) => extend_values(packed, op, left, right),
+            Numbers::Bytes(packed) => extend_values(packed, op, left, right),
+            Numbers::Shorts(packed) => extend_values(packed, op, left, right),
+            Numbers::Ushorts(packed) => extend_values(packed, op, left, right),
+            Numbers::Longs(packed) => extend_values(packed, op, left, right),
+            Numbers::Ulongs(packed) => extend_values(packed, op, left, right),
+            Numbers::Longlongs(packed) => extend_values(packed, op, left, right),
         }
     }
 
@@ -345,6 +378,29 @@ impl Numbers {
             Numbers::Longs(packed) => write_onward(packed, first, values),
             Numbers::Ulongs(packed) => write_onward(packed, first, values),
             Numbers::Longlongs(packed) => write_onward(packed, first, values),
+        }
+    }
+
+    /// Each number that a placement shows becomes an operator's value on it and one number, which
+    /// is in the type's range and no divisor 0. The placement shows none of them twice. They are
+    /// changed where they stand, in one pass.
+    pub fn update(&mut self, update: Update, placement: &Placement)
+        requires suits { Suits (elements_in self.old).ty update }
+        requires once { ShowsOnce placement.now }
+        requires reaches { Reaches placement.now (length (elements_in self.old).elems) }
+        ensures { let old = elements_in self.old in
+            let values = map (updated old.ty update) (shown_through placement.now old.elems) in
+            let places = placed_from placement.now 0 (size_of placement.now.dims) in
+            elements_in self.new ≡ record old { elems = write places values old.elems } }
+    {
+        match self {
+            Numbers::Sbytes(packed) => update_shown(packed, update, placement),
+            Numbers::Bytes(packed) => update_shown(packed, update, placement),
+            Numbers::Shorts(packed) => update_shown(packed, update, placement),
+            Numbers::Ushorts(packed) => update_shown(packed, update, placement),
+            Numbers::Longs(packed) => update_shown(packed, update, placement),
+            Numbers::Ulongs(packed) => update_shown(packed, update, placement),
+            Numbers::Longlongs(packed) => update_shown(packed, update, placement),
         }
     }
 

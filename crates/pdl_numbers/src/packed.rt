@@ -1,22 +1,25 @@
 //! Lists of numbers of one type, each kept as the bytes of its type.
-ghost use Rattle.std.specs.Prelude.{◌≡◌, ◌<◌, ◌≤◌, ◌+◌, ◌^◌, ◌+ℤ◌, ◌*ℤ◌, ℕ, ℤ, List, [], ◌++◌, pos, length, take, drop, map, get_or, slice_set, All, IfOk, OnOk, OnErr};
+ghost use Rattle.std.specs.Prelude.{◌≡◌, ◌≢◌, ◌<◌, ◌≤◌, ◌+◌, ◌^◌, ◌+ℤ◌, ◌*ℤ◌, ℕ, ℤ, IsTrue, List, [], ◌++◌, pos, length, take, drop, map, get_or, slice_set, All, IfOk, OnOk, OnErr};
 ghost use Rattle.std.specs.List.{flat_map, range_with_len};
 ghost use Rattle.std.proofs.Common.{rules};
 ghost use Rattle.pdl_elem.specs.declared.Ty.{Ty};
 ghost use Rattle.pdl_elem.specs.declared.Ty.TheVariants.{Sbyte, Byte, Short, Ushort, Long, Ulong, Longlong};
+ghost use Rattle.pdl_elem.specs.Blocks.{pairwise};
+ghost use Rattle.pdl_elem.specs.Operators.{divides, value_of};
 ghost use Rattle.pdl_elem.specs.Types.{InRange};
 ghost use Rattle.pdl_shape.specs.Places.{AllBelow, IsBelow, element_at, put, read, write};
 ghost use Rattle.pdl_shape.specs.Shape.{extent_limit, size_of};
 ghost use Rattle.pdl_shape.specs.Triple.{Reaches};
 ghost use Rattle.pdl_numbers.specs.Reads.{IsInside};
 ghost use Rattle.pdl_numbers.specs.Typed.{count_moved};
+ghost use Rattle.pdl_numbers.specs.Updates.{cell_with, change, value_with};
 ghost use Rattle.pdl_numbers.specs.Writes.{stepped};
 ghost use Rattle.pdl_numbers.specs.Shown.{shown_through};
 ghost use Rattle.pdl_numbers.specs.Bytes.{ArePacked, bytes_of, number_of};
 
 use crate::placement::{Placement, place_after};
 use crate::routes::Route;
-use pdl_elem::{Ty, wrap, wrapping_laws};
+use pdl_elem::{KnownOp, Ty, apply, block_laws, wrap, wrapping_laws};
 use pdl_shape::shape_laws;
 use std::alloc::{AllocError, Global};
 use std::marker::{Model, PhantomData};
@@ -34,6 +37,10 @@ pub trait PackedType<const N: usize> {
     fn unpack(bytes: &[u8; N]) -> i64
         ensures { result ≡ number_of ty bytes.now };
 
+    /// The type.
+    fn known() -> Ty
+        ensures { result ≡ ty };
+
     ghost narrow: { N ≤ 8 };
 }
 
@@ -44,6 +51,10 @@ impl PackedType<1> for AtSbyte {
     ghost ty = { Sbyte };
 
     ghost narrow = { Prim.search rules };
+
+    fn known() -> Ty {
+        Ty::Sbyte
+    }
 
     fn pack(number: i64) -> [u8; 1] {
         (number as i8).to_le_bytes()
@@ -62,6 +73,10 @@ impl PackedType<1> for AtByte {
 
     ghost narrow = { Prim.search rules };
 
+    fn known() -> Ty {
+        Ty::Byte
+    }
+
     fn pack(number: i64) -> [u8; 1] {
         (number as u8).to_le_bytes()
     }
@@ -78,6 +93,10 @@ impl PackedType<2> for AtShort {
     ghost ty = { Short };
 
     ghost narrow = { Prim.search rules };
+
+    fn known() -> Ty {
+        Ty::Short
+    }
 
     fn pack(number: i64) -> [u8; 2] {
         (number as i16).to_le_bytes()
@@ -96,6 +115,10 @@ impl PackedType<2> for AtUshort {
 
     ghost narrow = { Prim.search rules };
 
+    fn known() -> Ty {
+        Ty::Ushort
+    }
+
     fn pack(number: i64) -> [u8; 2] {
         (number as u16).to_le_bytes()
     }
@@ -112,6 +135,10 @@ impl PackedType<4> for AtLong {
     ghost ty = { Long };
 
     ghost narrow = { Prim.search rules };
+
+    fn known() -> Ty {
+        Ty::Long
+    }
 
     fn pack(number: i64) -> [u8; 4] {
         (number as i32).to_le_bytes()
@@ -130,6 +157,10 @@ impl PackedType<4> for AtUlong {
 
     ghost narrow = { Prim.search rules };
 
+    fn known() -> Ty {
+        Ty::Ulong
+    }
+
     fn pack(number: i64) -> [u8; 4] {
         (number as u32).to_le_bytes()
     }
@@ -146,6 +177,10 @@ impl PackedType<8> for AtLonglong {
     ghost ty = { Longlong };
 
     ghost narrow = { Prim.search rules };
+
+    fn known() -> Ty {
+        Ty::Longlong
+    }
 
     fn pack(number: i64) -> [u8; 8] {
         number.to_le_bytes()
@@ -211,6 +246,86 @@ fn pack_along<T: PackedType<N>, const N: usize>(
     }
 }
 
+/// The bytes of an operator's value on two numbers.
+fn packed_value<O: KnownOp, T: PackedType<N>, const N: usize>(left: i64, right: i64) -> [u8; N]
+    requires left { InRange T.ty left }
+    requires right { InRange T.ty right }
+    requires divisor { IsTrue (divides O.op) → right ≢ pos 0 }
+    ensures { result ≡ bytes_of T.ty (value_of O.op T.ty left right) }
+{
+    wrapping_laws();
+    T::pack(apply(O::known(), T::known(), left, right))
+}
+
+/// The number in a cell becomes an operator's value on it and another number.
+fn update_cell<O: KnownOp, T: PackedType<N>, const N: usize>(number: i64, cell: &mut [u8; N])
+    requires number { InRange T.ty number }
+    requires divisor { IsTrue (divides O.op) → number ≢ pos 0 }
+    ensures { cell.new ≡ cell_with O.op T.ty number cell.old }
+{
+    wrapping_laws();
+    *cell = packed_value::<O, T, N>(T::unpack(cell), number);
+}
+
+/// Sets each cell to the bytes of an operator's value on the two numbers that stand for it.
+fn pack_values<O: KnownOp, T: PackedType<N>, const N: usize>(
+    left: &[i64],
+    right: &[i64],
+    cells: &mut [[u8; N]],
+)
+    requires left { length left.now ≡ length cells.old }
+    requires right { length right.now ≡ length cells.old }
+    requires left_in_range { All (InRange T.ty) left.now }
+    requires right_in_range { All (InRange T.ty) right.now }
+    requires divisors { IsTrue (divides O.op) → All (λ y. y ≢ pos 0) right.now }
+    ensures { cells.new ≡ map (bytes_of T.ty) (pairwise (value_of O.op T.ty) left.now right.now) }
+{
+    block_laws();
+    for (i, number) in left.iter().enumerate() {
+        cells[i] = packed_value::<O, T, N>(*number, right[i]);
+    }
+}
+
+/// The number in each cell becomes an operator's value on it and another number.
+fn update_all<O: KnownOp, T: PackedType<N>, const N: usize>(number: i64, cells: &mut [[u8; N]])
+    requires number { InRange T.ty number }
+    requires divisor { IsTrue (divides O.op) → number ≢ pos 0 }
+    ensures { cells.new ≡ map (cell_with O.op T.ty number) cells.old }
+{
+    for cell in cells {
+        update_cell::<O, T, N>(number, cell);
+    }
+}
+
+/// The numbers in so many cells from a place on, each so far after the one before, become an
+/// operator's value on them and another number.
+fn update_along<O: KnownOp, T: PackedType<N>, const N: usize>(
+    number: i64,
+    place: u32,
+    inc: i32,
+    count: usize,
+    cells: &mut [[u8; N]],
+)
+    requires number { InRange T.ty number }
+    requires divisor { IsTrue (divides O.op) → number ≢ pos 0 }
+    requires small { count ≤ extent_limit }
+    requires inside { (j : ℕ) → j < count →
+        IsInside (length cells.old) (pos place +ℤ inc *ℤ pos j) }
+    requires packed { ArePacked T.ty cells.old }
+    ensures packed { ArePacked T.ty cells.new }
+    ensures value { map (number_of T.ty) cells.new
+        ≡ change (value_with O.op T.ty number) (stepped place inc count)
+        (map (number_of T.ty) cells.old) }
+{
+    wrapping_laws();
+    let mut at = i64::from(place);
+    for j in 0..count {
+        let _ = j;
+        update_cell::<O, T, N>(number, &mut cells[at as usize]);
+        at += i64::from(inc);
+    }
+}
+
 /// Sets each number to the one whose bytes stand in the cell for it.
 fn unpack_all<T: PackedType<N>, const N: usize>(cells: &[[u8; N]], numbers: &mut [i64])
     requires { length numbers.old ≡ length cells.now }
@@ -259,6 +374,27 @@ impl<T: PackedType<N>, const N: usize> Packed<T, N> {
         Ok(())
     }
 
+    /// Puts an operator's values on each two numbers of the type after the others.
+    pub(crate) fn extend_values<O: KnownOp>(
+        &mut self,
+        left: &[i64],
+        right: &[i64],
+    ) -> Result<(), AllocError>
+        requires paired { length left.now ≡ length right.now }
+        requires left_in_range { All (InRange T.ty) left.now }
+        requires right_in_range { All (InRange T.ty) right.now }
+        requires divisors { IsTrue (divides O.op) → All (λ y. y ≢ pos 0) right.now }
+        ensures ok { let values = pairwise (value_of O.op T.ty) left.now right.now in
+            OnOk result (self.new ≡ self.old ++ values) }
+        ensures err { OnErr result (self.new ≡ self.old) }
+    {
+        block_laws();
+        let start = self.cells.len();
+        self.cells.resize(start + left.len(), [0; N])?;
+        pack_values::<O, T, N>(left, right, &mut self.cells[start..]);
+        Ok(())
+    }
+
     /// Sets `into` to the numbers from a place on, of which there are enough.
     pub(crate) fn read_from(&self, start: usize, into: &mut [i64])
         requires { start + length into.old ≤ length self.now }
@@ -293,6 +429,41 @@ impl<T: PackedType<N>, const N: usize> Packed<T, N> {
             ≡ write (stepped place inc (length numbers.now)) numbers.now self.old }
     {
         pack_along::<T, N>(numbers, place, inc, self.cells.as_mut_slice());
+    }
+
+    /// So many numbers from a place on, each so far after the one before, all of which are among
+    /// these, become an operator's value on them and another number. Neighbours are taken at once.
+    pub(crate) fn update_run<O: KnownOp>(&mut self, number: i64, place: u32, inc: i32, count: usize)
+        requires number { InRange T.ty number }
+        requires divisor { IsTrue (divides O.op) → number ≢ pos 0 }
+        requires some { 0 < count }
+        requires small { count ≤ extent_limit }
+        requires inside { (j : ℕ) → j < count →
+            IsInside (length self.old) (pos place +ℤ inc *ℤ pos j) }
+        ensures { self.new
+            ≡ change (value_with O.op T.ty number) (stepped place inc count) self.old }
+    {
+        if inc == 1 {
+            self.update_from::<O>(number, place as usize, count)
+        } else {
+            update_along::<O, T, N>(number, place, inc, count, self.cells.as_mut_slice())
+        }
+    }
+
+    /// So many numbers from a place on, of which there are enough, become an operator's value on
+    /// them and another number.
+    fn update_from<O: KnownOp>(&mut self, number: i64, start: usize, count: usize)
+        requires number { InRange T.ty number }
+        requires divisor { IsTrue (divides O.op) → number ≢ pos 0 }
+        requires within { start + count ≤ length self.old }
+        ensures { let old = self.old in
+            let values = map (value_with O.op T.ty number) (take count (drop start old)) in
+            self.new ≡ take start old ++ values ++ drop (start + count) old }
+    {
+        wrapping_laws();
+        let _count = self.len();
+        let end = start + count;
+        update_all::<O, T, N>(number, &mut self.cells[start..end]);
     }
 
     /// How many of the numbers aren't 0.

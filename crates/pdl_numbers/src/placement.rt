@@ -48,7 +48,7 @@ impl Placement {
         self.is_in_order && self.triple.offset == 0
     }
 
-    /// The triple.
+    /// The triple by which it places.
     pub fn triple(&self) -> &Triple
         ensures { result.now ≡ self.now }
     {

@@ -44,6 +44,24 @@ fn number_after<T: PackedType<N>, const N: usize>(
     T::unpack(&cells[place_after(place, inc, steps)])
 }
 
+/// The three numbers from a place on, each so far after the one before, without a loop: its rounds
+/// would take most of the time of so short a row.
+fn read_three<T: PackedType<N>, const N: usize>(
+    numbers: &Packed<T, N>,
+    place: u32,
+    inc: i32,
+    into: &mut [i64],
+)
+    requires three { length into.old ≡ 3 }
+    requires inside { LiesInside (length numbers.now) place inc (length into.old) }
+    ensures { HasStepped numbers.now place inc (length into.old) into.new }
+{
+    let cells = numbers.cells();
+    into[0] = number_after::<T, N>(cells, place, inc, 0);
+    into[1] = number_after::<T, N>(cells, place, inc, 1);
+    into[2] = number_after::<T, N>(cells, place, inc, 2);
+}
+
 /// The numbers from each of four places on, each so far after the one before. Where the places are
 /// neighbours, each part of the buffer that stands in the cache is looked at once for the four.
 fn read_side_by_side<T: PackedType<N>, const N: usize>(
@@ -114,12 +132,16 @@ pub(crate) fn read_run<T: PackedType<N>, const N: usize>(
         IsInside (length numbers.now) (pos place +ℤ inc *ℤ pos j) }
     ensures { HasStepped numbers.now place inc (length into.old) into.new }
 {
-    if at_once {
+    if inc == 0 {
+        if 0 < into.len() {
+            repeat_number(numbers.get(place as usize), into);
+        }
+    } else if at_once {
         numbers.read_from(place as usize, into);
-    } else if inc != 0 {
+    } else if into.len() == 3 {
+        read_three(numbers, place, inc, into);
+    } else {
         read_steps(numbers, place, inc, into);
-    } else if 0 < into.len() {
-        repeat_number(numbers.get(place as usize), into);
     }
 }
 

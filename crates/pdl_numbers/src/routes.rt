@@ -8,7 +8,7 @@ pub trait Route {
 
     ghost goes_to: { Self → ℕ → Option ℕ };
 
-    /// The place of a position.
+    /// Where the value of a position goes, if anywhere.
     fn place(&self, position: u32) -> Option<u32>
         requires { position < count self.now }
         ensures { result ≡ goes_to self.now position };

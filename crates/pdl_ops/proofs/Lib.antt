@@ -1,8 +1,8 @@
-pub mod Lists
-pub mod Zeros
-pub mod Parts
-pub mod Results
-pub mod Fitting
-pub mod Coordinates
-pub mod Cuts
-pub mod Forms
+pub mod BlockLists
+pub mod BlockZeros
+pub mod ElementwiseParts
+pub mod ElementwiseResults
+pub mod ValueFitting
+pub mod FillCoordinates
+pub mod ValueCuts
+pub mod ElementwiseForms

@@ -16,7 +16,7 @@ IsArray m = IsMade m.ty m.dims m.elems
 abbrev pub form_of : Made → Ty × List ℕ
 form_of m = (m.ty, m.dims)
 
--- the form of what there is, or its refusal
+-- the form of the array that an operator gives, or its refusal
 abbrev pub form : Result Made OpRefusal → Result (Ty × List ℕ) OpRefusal
 form (Ok m) = Ok (form_of m)
 form (Err refusal) = Err refusal

@@ -1,9 +1,8 @@
 //! An operator on two windows of as many elements, in blocks.
-ghost use Rattle.std.specs.Prelude.{◌≡◌, ◌+◌, ◌*◌, ◌<◌, ◌≤◌, [], length, map, take, All, IfOk, OnOk};
-ghost use Rattle.std.specs.Result.{result_err};
+ghost use Rattle.std.specs.Prelude.{◌≡◌, ◌≢◌, ◌+◌, ◌++◌, ◌*◌, ◌<◌, ◌≤◌, pos, [], length, map, None, All, IsTrue, IfOk, OnOk};
 ghost use Rattle.pdl_elem.specs.Blocks.{pairwise, zero_at};
 ghost use Rattle.pdl_elem.specs.Numbers.{wrapped};
-ghost use Rattle.pdl_elem.specs.Operators.{value_of};
+ghost use Rattle.pdl_elem.specs.Operators.{divides, value_of};
 ghost use Rattle.pdl_elem.specs.Types.{InRange, binary_result};
 ghost use Rattle.pdl_ops.specs.Answers.{Answers};
 ghost use Rattle.pdl_ops.specs.Elementwise.{operands_from, values_of};
@@ -11,18 +10,47 @@ ghost use Rattle.pdl_ops.specs.Elementwise.{operands_from, values_of};
 use crate::OpFault;
 use crate::operands::{block_of, read_operand};
 use pdl_buf::{Packing, Strided, strided_dims};
-use pdl_elem::{BinaryOp, Ty, binary_all};
+use pdl_elem::{BinaryOp, Ty, apply_all, binary_type, first_refused, operator_laws};
 use pdl_shape::elements_of;
-use std::alloc::Global;
+use std::alloc::{AllocError, Global};
 
 /// For so many elements the operands and the values find room without an allocation.
 pub(crate) const FEW: usize = 16;
 
-/// Sets the first `count` numbers of a room to the operator's values at the type on so many
-/// elements of two windows from a position on, of which there are enough. The room is three times
-/// as long: the operands are put behind the values. Where the operator divides and some divisor is
-/// 0, it answers the place of the first one in the block.
-fn values_block(
+/// Puts the operator's values at the type on each two numbers of it into a packing of the type that
+/// they have. They are packed as they are found where this is the type itself. `values` is room for
+/// as many.
+fn put_values(
+    op: BinaryOp,
+    ty: Ty,
+    left: &[i64],
+    right: &[i64],
+    values: &mut [i64],
+    made: &mut Packing,
+) -> Result<(), AllocError>
+    requires left { length left.now ≡ length values.old }
+    requires right { length right.now ≡ length values.old }
+    requires left_in_range { All (InRange ty) left.now }
+    requires right_in_range { All (InRange ty) right.now }
+    requires divisors { IsTrue (divides op) → All (λ y. y ≢ pos 0) right.now }
+    requires result_type { made.old.ty ≡ binary_result op ty ty }
+    ensures made { let values = pairwise (value_of op ty) left.now right.now in
+        OnOk result (made.new ≡ record made.old { elems = made.old.elems ++ values }) }
+    ensures length { length values.new ≡ length values.old }
+{
+    if binary_type(op, ty, ty) == ty {
+        made.extend_values(op, left, right)
+    } else {
+        apply_all(op, ty, left, right, values);
+        made.extend(values)
+    }
+}
+
+/// Puts the operator's values at the type on so many elements of two windows from a position on, of
+/// which there are enough, into a packing of the type that they have. The room is three times as
+/// long: for the operands, and for the values behind them. Where the operator divides and some
+/// divisor is 0, it puts none and answers the place of the first one in the block.
+fn put_block(
     op: BinaryOp,
     ty: Ty,
     a: &Strided<'_>,
@@ -30,23 +58,31 @@ fn values_block(
     first: u32,
     count: usize,
     room: &mut [i64],
-) -> Result<(), usize>
+    made: &mut Packing,
+) -> Result<Option<usize>, AllocError>
     requires room { length room.old ≡ 3 * count }
     requires a_within { first + count ≤ length a.now.elems }
     requires b_within { first + count ≤ length b.now.elems }
-    ensures value { let xs = operands_from ty first count a.now.elems in
-        let ys = operands_from ty first count b.now.elems in
-        OnOk result (take count room.new ≡ pairwise (value_of op ty) xs ys) }
-    ensures in_range { OnOk result (All (InRange (binary_result op ty ty)) (take count room.new)) }
+    requires result_type { made.old.ty ≡ binary_result op ty ty }
     ensures refused { let ys = operands_from ty first count b.now.elems in
-        result_err result ≡ zero_at op ys }
+        IfOk result (λ found. found ≡ zero_at op ys) }
+    ensures made { let xs = operands_from ty first count a.now.elems in
+        let ys = operands_from ty first count b.now.elems in
+        let elems = made.old.elems ++ pairwise (value_of op ty) xs ys in
+        IfOk result (λ found. found ≡ None → made.new ≡ record made.old { elems = elems }) }
     ensures length { length room.new ≡ 3 * count }
 {
-    let (values, operands) = room.split_at_mut(count);
-    let (left, right) = operands.split_at_mut(count);
+    let (left, rest) = room.split_at_mut(count);
+    let (right, values) = rest.split_at_mut(count);
     read_operand(a, ty, first, left);
     read_operand(b, ty, first, right);
-    binary_all(op, ty, left, right, values)
+    match first_refused(op, right) {
+        Some(place) => Ok(Some(place)),
+        None => {
+            put_values(op, ty, left, right, values, made)?;
+            Ok(None)
+        }
+    }
 }
 
 /// The operator's values at the type on the elements of two windows of as many elements, each
@@ -70,8 +106,7 @@ pub(crate) fn values(
 {
     let count = elements_of(strided_dims(b)) as usize;
     if count <= FEW {
-        let mut room = [0; 3 * FEW];
-        values_within(op, ty, a, b, made, FEW, &mut room)
+        values_within(op, ty, a, b, made, FEW, &mut [0; 3 * FEW])
     } else {
         let block = count.min(block_of(a).max(block_of(b)));
         let mut room = vec![in alloc; 0; 3 * block]?;
@@ -79,8 +114,8 @@ pub(crate) fn values(
     }
 }
 
-/// What `values` answers, found in blocks of so many at most, in a room for the values and the
-/// operands of one.
+/// What `values` answers, found in blocks of so many at most, in a room for the operands and the
+/// values of one.
 fn values_within(
     op: BinaryOp,
     ty: Ty,
@@ -100,17 +135,26 @@ fn values_within(
     ensures in_range { IfOk result (λ made. All (InRange (binary_result op ty ty)) made.elems) }
     ensures count { IfOk result (λ made. length made.elems ≡ length b.now.elems) }
 {
+    operator_laws();
     let count = elements_of(strided_dims(b)) as usize;
     let mut done = 0;
     while done < count {
         let size = (count - done).min(block);
-        let found = values_block(op, ty, a, b, done as u32, size, &mut room[..3 * size]);
-        if let Err(place) = found {
+        let found = put_block(
+            op,
+            ty,
+            a,
+            b,
+            done as u32,
+            size,
+            &mut room[..3 * size],
+            &mut made,
+        )?;
+        if let Some(place) = found {
             return Err(OpFault::DivideByZero {
                 place: (done + place) as u32,
             });
         }
-        made.extend(&room[..size])?;
         done += size;
     }
     Ok(made)

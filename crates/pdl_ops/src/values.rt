@@ -130,8 +130,7 @@ fn new_values(
     let count = elements_of(strided_dims(new)) as usize;
     let empty = nothing(alloc, keeping, ty, count)?;
     let made = if count <= FEW {
-        let mut room = [0; 3 * FEW];
-        values_within(sign, old, new, empty, FEW, &mut room)?
+        values_within(sign, old, new, empty, FEW, &mut [0; 3 * FEW])?
     } else {
         let block = count.min(block_of(old).max(block_of(new)));
         let mut room = vec![in alloc; 0; 3 * block]?;

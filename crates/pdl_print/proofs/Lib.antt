@@ -1,2 +1,2 @@
-pub mod Fronts
-pub mod Texts
+pub mod PieceFronts
+pub mod PrintedTexts

@@ -1,5 +1,5 @@
-mod Gathered
-mod Found
-mod Paths
-mod Untouched
-mod Fills
+mod PlacedGathered
+mod GatheredPlaces
+mod FilledPaths
+mod FilledElsewhere
+mod FilledViews

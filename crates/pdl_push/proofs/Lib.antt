@@ -1,9 +1,9 @@
-mod Puts
-mod Known
-mod RowsAfter
-mod AtRoot
-mod AtBase
-mod Assigned
-mod Targets
-mod Goings
+mod PlacePuts
+mod RowsKnown
+mod LateRows
+mod LateAtRoot
+mod LateAtBase
+mod LateAssignments
+mod TargetLemmas
+mod LateGoings
 mod SettledAll

@@ -17,7 +17,7 @@ use Rattle.pdl_nodes.specs.Sized.{AreSized}
 use Rattle.pdl_nodes.specs.Staying.{stays_from}
 use Rattle.pdl_nodes.specs.Worlds.{IsRoot}
 use Rattle.pdl_push.specs.Settled.{IsSettledAt}
-use Rattle.pdl_push.proofs.Goings.{going_same, size_same, stays_by}
+use Rattle.pdl_push.proofs.LateGoings.{going_same, size_same, stays_by}
 
 stays_twice : (t : ℕ → Bool) (o : Option ℕ) → stays_from t (stays_from t o) ≡ stays_from t o
 stays_twice t None = refl

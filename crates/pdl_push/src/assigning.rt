@@ -5,10 +5,12 @@ ghost use Rattle.pdl_shape.specs.Shape.{size_of};
 ghost use Rattle.pdl_nodes.specs.Put.{IsWrite};
 ghost use Rattle.pdl_nodes.specs.Row.{shown_of};
 ghost use Rattle.pdl_nodes.specs.Rows.{row_at};
+ghost use Rattle.pdl_nodes.specs.Updates.{CanUpdate, updated_at};
 ghost use Rattle.pdl_push.specs.Targets.{IsAssigned, WaitsTarget, target};
 
 use pdl_buf::{Buf, Steps};
 use pdl_nodes::{Goal, Shown, Table, row_laws};
+use pdl_numbers::Update;
 use std::sync::ledger::Ledger;
 
 /// Assigns values to a fresh array at its root, of whose family nothing waits. It takes a step for
@@ -115,4 +117,21 @@ pub fn replace(table: &mut Table, id: u64, kept: Buf)
 {
     row_laws();
     table.replace(id, kept)
+}
+
+/// Each element of a fresh array whose base is its root, and that shows no place twice, becomes an
+/// operator's value on it and one number, where it stands. It takes a step for each, and no memory.
+pub fn update<L: Ledger>(table: &mut Table, id: u64, change: Update, steps: &mut Steps<L>)
+    requires update { CanUpdate change table.old id }
+    requires over_root { (row_at table.old id).base ≡ (row_at table.old id).root }
+    ensures write { IsWrite table.old id 0 (updated_at change table.old id) }
+    ensures assigned { IsAssigned table.old id 0 (updated_at change table.old id) table.new }
+    ensures waits { WaitsTarget table.old id table.new }
+    ensures counted { steps.new ≡ steps.old + size_of (row_at table.old id).triple.dims }
+{
+    row_laws();
+    let at = table.node(id).shown(id);
+    table.update(&at, change, steps);
+    let root = at.root;
+    table.mark(root, root);
 }

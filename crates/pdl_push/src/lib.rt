@@ -5,5 +5,5 @@
 mod assigning;
 mod settling;
 
-pub use assigning::{assign, replace};
+pub use assigning::{assign, replace, update};
 pub use settling::{settle, settle_all, write_back};

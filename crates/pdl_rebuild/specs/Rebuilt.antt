@@ -9,7 +9,8 @@ use Rattle.pdl_machine.specs.Watches.{Watches}
 
 -- a state of slots, kernels, names and arrays, without flows, in which the next array gets this
 -- number
-abbrev pub state_with : Watches → Named KernelTexts → Named ℕ → World → (next : ℕ) → State
+abbrev pub state_with : Watches → (kernels : Named KernelTexts) → (names : Named ℕ) → World → (next : ℕ)
+    → State
 state_with ws kernels names w next = record {
   names = record { arrays = names; kernels = kernels };
   arrays = record { world = w; next = next };
@@ -18,7 +19,7 @@ state_with ws kernels names w next = record {
 }
 
 -- in which the next array gets the number of arrays
-abbrev pub state_of : Watches → Named KernelTexts → Named ℕ → World → State
+abbrev pub state_of : Watches → (kernels : Named KernelTexts) → (names : Named ℕ) → World → State
 state_of ws kernels names w = state_with ws kernels names w (length w)
 
 -- the parent of a view has a number below this one

@@ -1,5 +1,6 @@
 -- A step of the proof: the pairings are products of blocks of elements as matrices.
-use Rattle.std.specs.Prelude.{◌≡◌, ◌<◌, ◌≤◌, ℕ, ◌+◌, ◌*◌, ◌/◌, ◌%◌, ◌==◌, ℤ, pos, ◌*ℤ◌, if◌then◌else◌, List, length, get_or, map, take, drop, Option, Some, None}
+use Rattle.std.specs.Prelude.{◌≡◌, ◌<◌, ◌≤◌, ℕ, ◌+◌, ◌*◌, ◌/◌, ◌%◌, ◌==◌, ℤ, pos, ◌+ℤ◌, ◌*ℤ◌, if◌then◌else◌, List, length, get_or, map, take, drop, Option, Some, None}
+use Rattle.std.specs.Int.{int_wrap, w64}
 use Rattle.std.specs.List.{range_with_len}
 use Rattle.pdl_elem.specs.declared.Ty.{Ty}
 use Rattle.pdl_elem.specs.Numbers.{wrapped}
@@ -28,6 +29,21 @@ right_at s right k j = get_or right (j + s.width * cut s.right_depth k) (pos 0)
 -- the sum of their products over the first depths
 abbrev pub sum_at : Sizes → (left right : List ℤ) → (depth i j : ℕ) → ℤ
 sum_at s left right depth i j = sum_below depth (λ k. left_at s left i k *ℤ right_at s right k j)
+
+-- a number and a product more, in words that wrap
+abbrev pub plus_scaled : (sum factor number : ℤ) → ℤ
+plus_scaled sum factor number = int_wrap w64 (sum +ℤ factor *ℤ number)
+
+-- a number and four products more, in words that wrap
+abbrev pub plus_four_scaled : (sum first a second b third c fourth d : ℤ) → ℤ
+plus_four_scaled sum first a second b third c fourth d =
+    plus_scaled (plus_scaled (plus_scaled (plus_scaled sum first a) second b) third c) fourth d
+
+-- a row has the sums over the first depths, in words that wrap
+pub record HasSums (s : Sizes) (left right : List ℤ) (depth i : ℕ) (row : List ℤ) : Type 0 where
+  pub width : length row ≡ s.width
+  pub sums : (j : ℕ) → j < s.width →
+      get_or row j (pos 0) ≡ int_wrap w64 (sum_at s left right depth i j)
 
 -- the number at a place of the product, row by row, wrapped to a type
 abbrev pub product_at : Ty → Sizes → (left right : List ℤ) → (place : ℕ) → ℤ

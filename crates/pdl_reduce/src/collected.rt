@@ -56,7 +56,7 @@ impl Collected {
         self.packed.extend(numbers)
     }
 
-    /// All of them, packed.
+    /// The packing of all numbers, those of the last block too.
     pub(crate) fn packed(self) -> Result<Packing, AllocError>
         ensures { IfOk result (λ packing. packing ≡ self) }
     {

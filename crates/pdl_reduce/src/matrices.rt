@@ -4,7 +4,7 @@ ghost use Rattle.std.specs.Int.{int_wrap, w64};
 ghost use Rattle.std.specs.List.{range_with_len};
 ghost use Rattle.pdl_elem.specs.Numbers.{wrapped};
 ghost use Rattle.pdl_shape.specs.Shape.{extent_limit};
-ghost use Rattle.pdl_reduce.specs.Blocks.{Fit, cut, product_at, sum_at};
+ghost use Rattle.pdl_reduce.specs.Blocks.{Fit, HasSums, cut, left_at, plus_four_scaled, plus_scaled, product_at, right_at, sum_at};
 ghost use Rattle.pdl_reduce.specs.Pairings.{sum_below};
 
 use crate::collected::Collected;
@@ -40,16 +40,36 @@ fn cut(size: usize, coordinate: usize) -> usize
 
 /// A sum and one product more, in words that wrap.
 fn add_scaled_to(sum: i64, factor: i64, number: i64) -> i64
-    ensures { result ≡ int_wrap w64 (sum +ℤ factor *ℤ number) }
+    ensures { result ≡ plus_scaled sum factor number }
 {
     sum.wrapping_add(factor.wrapping_mul(number))
+}
+
+/// A sum and four products more, in words that wrap.
+fn add_four_to(
+    sum: i64,
+    first: i64,
+    a: i64,
+    second: i64,
+    b: i64,
+    third: i64,
+    c: i64,
+    fourth: i64,
+    d: i64,
+) -> i64
+    ensures { result ≡ plus_four_scaled sum first a second b third c fourth d }
+{
+    let one = add_scaled_to(sum, first, a);
+    let two = add_scaled_to(one, second, b);
+    let three = add_scaled_to(two, third, c);
+    add_scaled_to(three, fourth, d)
 }
 
 /// Adds to each number of a row another number times a factor.
 fn add_scaled(factor: i64, numbers: &[i64], row: &mut [i64])
     requires { length numbers.now ≡ length row.old }
     ensures { (j : ℕ) → j < length row.old → get_or row.new j (pos 0)
-        ≡ int_wrap w64 (get_or row.old j (pos 0) +ℤ factor *ℤ get_or numbers.now j (pos 0)) }
+        ≡ plus_scaled (get_or row.old j (pos 0)) factor (get_or numbers.now j (pos 0)) }
 {
     for (j, sum) in row.iter_mut().enumerate() {
         *sum = add_scaled_to(*sum, factor, numbers[j]);
@@ -69,8 +89,93 @@ fn sum_of_products(left: &[i64], right: &[i64]) -> i64
     sum
 }
 
-/// Sets a row to row `i` of the product, in words that wrap, depth by depth. It goes through both
-/// blocks in order.
+/// Adds to each number of a row those of four others, each times its own factor, in words that wrap.
+/// The row is gone through once for the four.
+fn add_four_scaled(
+    first: i64,
+    second: i64,
+    third: i64,
+    fourth: i64,
+    a: &[i64],
+    b: &[i64],
+    c: &[i64],
+    d: &[i64],
+    row: &mut [i64],
+)
+    requires a { length a.now ≡ length row.old }
+    requires b { length b.now ≡ length row.old }
+    requires c { length c.now ≡ length row.old }
+    requires d { length d.now ≡ length row.old }
+    ensures { (j : ℕ) → j < length row.old → get_or row.new j (pos 0)
+        ≡ plus_four_scaled (get_or row.old j (pos 0)) first (get_or a.now j (pos 0))
+        second (get_or b.now j (pos 0)) third (get_or c.now j (pos 0))
+        fourth (get_or d.now j (pos 0)) }
+{
+    for (j, sum) in row.iter_mut().enumerate() {
+        *sum = add_four_to(*sum, first, a[j], second, b[j], third, c[j], fourth, d[j]);
+    }
+}
+
+/// The left block's number in row `i` and at depth `k`.
+fn left_at(sizes: Sizes, left: &[i64], i: usize, k: usize) -> i64
+    requires count { length left.now ≡ sizes.left_depth * sizes.height }
+    requires small { length left.now ≤ extent_limit }
+    requires inside { i < sizes.height }
+    requires deep { cut sizes.left_depth k < sizes.left_depth }
+    ensures { result ≡ left_at sizes left.now i k }
+{
+    left[cut(sizes.left_depth, k) + sizes.left_depth * i]
+}
+
+/// The right block's numbers at depth `k`.
+fn right_at<'a>(sizes: Sizes, right: &'a [i64], k: usize) -> &'a [i64]
+    requires count { length right.now ≡ sizes.width * sizes.right_depth }
+    requires small { length right.now ≤ extent_limit }
+    requires deep { cut sizes.right_depth k < sizes.right_depth }
+    ensures count { length result.now ≡ sizes.width }
+    ensures numbers { (j : ℕ) → j < sizes.width →
+        get_or result.now j (pos 0) ≡ right_at sizes right.now k j }
+{
+    let start = sizes.width * cut(sizes.right_depth, k);
+    &right[start..start + sizes.width]
+}
+
+/// Takes depth `k` into the sums over the depths before it.
+fn add_depth(sizes: Sizes, i: usize, k: usize, left: &[i64], right: &[i64], row: &mut [i64])
+    requires fit { Fit sizes left.now right.now }
+    requires inside { i < sizes.height }
+    requires within { k < sizes.depth }
+    requires small_left { length left.now ≤ extent_limit }
+    requires small_right { length right.now ≤ extent_limit }
+    requires summed { HasSums sizes left.now right.now k i row.old }
+    ensures { HasSums sizes left.now right.now (k + 1) i row.new }
+{
+    add_scaled(left_at(sizes, left, i, k), right_at(sizes, right, k), row);
+}
+
+/// Takes four depths from `k` on into the sums over the depths before them.
+fn add_four_depths(sizes: Sizes, i: usize, k: usize, left: &[i64], right: &[i64], row: &mut [i64])
+    requires fit { Fit sizes left.now right.now }
+    requires inside { i < sizes.height }
+    requires within { k + 4 ≤ sizes.depth }
+    requires small_left { length left.now ≤ extent_limit }
+    requires small_right { length right.now ≤ extent_limit }
+    requires summed { HasSums sizes left.now right.now k i row.old }
+    ensures { HasSums sizes left.now right.now (k + 4) i row.new }
+{
+    let first = left_at(sizes, left, i, k);
+    let second = left_at(sizes, left, i, k + 1);
+    let third = left_at(sizes, left, i, k + 2);
+    let fourth = left_at(sizes, left, i, k + 3);
+    let a = right_at(sizes, right, k);
+    let b = right_at(sizes, right, k + 1);
+    let c = right_at(sizes, right, k + 2);
+    let d = right_at(sizes, right, k + 3);
+    add_four_scaled(first, second, third, fourth, a, b, c, d, row);
+}
+
+/// Sets a row to row `i` of the product, in words that wrap, four depths at once. It goes through
+/// both blocks in order.
 fn add_depths(sizes: Sizes, i: usize, left: &[i64], right: &[i64], row: &mut [i64])
     requires fit { Fit sizes left.now right.now }
     requires inside { i < sizes.height }
@@ -81,10 +186,12 @@ fn add_depths(sizes: Sizes, i: usize, left: &[i64], right: &[i64], row: &mut [i6
         ≡ int_wrap w64 (sum_at sizes left.now right.now sizes.depth i j) }
 {
     row.fill(0);
-    for k in 0..sizes.depth {
-        let factor = left[cut(sizes.left_depth, k) + sizes.left_depth * i];
-        let start = sizes.width * cut(sizes.right_depth, k);
-        add_scaled(factor, &right[start..start + sizes.width], row);
+    let fours = sizes.depth / 4;
+    for q in 0..fours {
+        add_four_depths(sizes, i, 4 * q, left, right, row);
+    }
+    for k in 4 * fours..sizes.depth {
+        add_depth(sizes, i, k, left, right, row);
     }
 }
 

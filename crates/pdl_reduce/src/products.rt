@@ -73,7 +73,7 @@ fn nothing_fixed(alloc: Global, letters: &[u8]) -> Result<Items<Option<u32>>, Al
     Ok(Items::new(fixed))
 }
 
-/// The signature of a pairing.
+/// The signature by which the dimensions of a pairing resolve.
 fn signature_of(alloc: Global, kind: Pairing) -> Result<Signature, AllocError>
     ensures { IfOk result (λ signature. signature ≡ signature_of kind) }
 {

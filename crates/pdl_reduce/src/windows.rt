@@ -9,9 +9,9 @@ ghost use Rattle.pdl_reduce.specs.Folds.{at_prefixes, first_place};
 ghost use Rattle.pdl_reduce.specs.Reductions.{is_set};
 
 use crate::collected::Collected;
-use crate::folds::{Folding, fold_block, run_block};
+use crate::folds::{Folding, fold_block, run_wrapped};
 use pdl_buf::{Strided, strided_read};
-use pdl_elem::{Ty, wrap_all};
+use pdl_elem::Ty;
 use std::alloc::AllocError;
 
 /// At most so many elements are worked on at once, which stay in the cache.
@@ -150,8 +150,7 @@ fn run_part<F: Folding>(
     ensures typed { OnOk result (made.new.ty ≡ made.old.ty) }
 {
     strided_read(a, first, part);
-    let end = run_block::<F>(start, part);
-    wrap_all(ty, part);
+    let end = run_wrapped::<F>(ty, start, part);
     made.extend(part)?;
     Ok(end)
 }

@@ -5,7 +5,7 @@ use Rattle.std.specs.Map.{lookup}
 use Rattle.std.specs.BTreeMap.{is_at}
 use Rattle.pdl_registry.specs.declared.limits.TheConstants.{MOST_NEWEST}
 
--- the value of v
+-- the value of the number v, if it has one
 abbrev pub value_at : {V : Type 0} → List (ℕ × V) → ℕ → Option V
 value_at es v = lookup (is_at (nat_cmp v)) es
 

@@ -32,7 +32,7 @@ impl Descending {
         Descending { number }
     }
 
-    /// The number.
+    /// The number that the key stands for.
     pub fn number(&self) -> u64
         ensures { result ≡ self.now }
     {

@@ -34,7 +34,7 @@ impl<V> Model for Numbered<V> {
 }
 
 impl<V: Copy + Drop> Numbered<V> {
-    /// No numbers.
+    /// No number has a value. It takes no memory.
     pub fn new(alloc: Global) -> Numbered<V>
         ensures { result ≡ [] }
     {

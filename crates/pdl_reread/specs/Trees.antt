@@ -75,7 +75,7 @@ abbrev pub AllFit : List ℤ → Type 0
 AllFit [] = Unit {0}
 AllFit (n ∷ ns) = Fits n × AllFit ns
 
--- a view word
+-- a word that the lexer knows as that of a view
 abbrev pub IsViewWord : List ℕ → Type 0
 IsViewWord word = (kind_of word ≡ Some Word) × ((w : Span) → word_of word w ≡ a_word View w)
 

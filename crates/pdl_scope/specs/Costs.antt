@@ -95,7 +95,7 @@ GrowingMakesNoneDearer =
     (old new : Scope) → IsInOrder old → IsInOrder new → Grows old new
     → CostsNoMore (engine_of old) (engine_of new)
 
--- a new root is ready
+-- to make a new root ready takes no step
 abbrev pub NewRootsAreReady : Type 0
 NewRootsAreReady =
     (old new : Scope) (m : Made) (v : ℕ) → IsInOrder new

@@ -43,7 +43,7 @@ WritesLines old new count lines (Err NoMemory) = Unit {0}
 abbrev pub HasRoom : Image → Type 0
 HasRoom m = is_too_long m.text [] ≡ false
 
--- the lines of kernels
+-- a line for each kernel, in the order of their first definitions
 abbrev pub kernel_lines : Named KernelTexts → List Line
 kernel_lines kernels = map (λ k. definition_line (definition k)) kernels
 

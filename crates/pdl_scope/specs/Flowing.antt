@@ -34,7 +34,7 @@ have_flow w flows vs = list_any (λ v. is_flow flows (root_of w v)) vs
 
 -- why an array keeps its dimensions, whatever others it is to get: it is watched, or a flow's root,
 -- or a flow reads it
-abbrev pub kept_shape : Watches → Flows → World → ℕ → Option Fault
+abbrev pub kept_shape : Watches → Flows → World → (v : ℕ) → Option Fault
 kept_shape watches flows w v =
     if is_watched watches w v then Some StillWatched
     else if is_flow flows v then Some FlowTarget

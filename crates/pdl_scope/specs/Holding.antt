@@ -18,7 +18,7 @@ IsHeldForName old leaving id new left =
     ⊎ ((new ≡ record old { holds = one_more_at old.holds id }) × (left ≡ leaving))
 
 -- arrays are held for these names, these watches, these flows, and the list of those that leave
-abbrev pub IsHeldFor : Named ℕ → Watches → Flows → Engine → (leaving : List ℕ) → Type 0
+abbrev pub IsHeldFor : (names : Named ℕ) → Watches → Flows → Engine → (leaving : List ℕ) → Type 0
 IsHeldFor names watches flows e leaving =
     IsHeld (state_in (names_in names []) watches flows e) e.holds leaving
 

@@ -41,7 +41,7 @@ pub record Scope : Type 0 where
   pub flows : Flows
   pub lent : Lent
 
--- the engine of a scope
+-- what the engine of a scope is seen as: its arrays, and what is lent of them
 abbrev pub engine_of : Scope → Engine
 engine_of s = record {
   world = s.arrays.world;
@@ -51,7 +51,7 @@ engine_of s = record {
   next = s.arrays.next;
 }
 
--- the machine's state
+-- a scope as a state of the machine, which knows nothing of what can be lent
 abbrev pub machine : Scope → State
 machine s =
     record { names = s.names; arrays = s.arrays; watches = s.watches; flows = s.flows }
@@ -60,7 +60,7 @@ machine s =
 abbrev pub lent_by : Engine → Lent
 lent_by e = record { fresh = e.fresh; pending = e.pending; holds = e.holds }
 
--- names, watches and flows with an engine
+-- the scope that has these names, watches and flows, and its arrays in this engine
 abbrev pub scope_in : Names → Watches → Flows → Engine → Scope
 scope_in names watches flows e = record {
   names = names;

@@ -65,14 +65,14 @@ impl Scope {
     }
 }
 
-/// Whether a slot is attached.
+/// Whether a slot is attached, which no line of a dump could say.
 fn is_any_attached(watches: &[Option<ArrayId>]) -> bool
     ensures { result ≡ list_any is_some watches.now }
 {
     watches.iter().any(|slot| slot.is_some())
 }
 
-/// Whether there is a flow.
+/// Whether there is a flow, whose formula no line of a dump could say.
 fn is_any_flow(flows: &[KeptFlow]) -> bool
     ensures { result ≡ nat_lt 0 (length flows.now) }
 {

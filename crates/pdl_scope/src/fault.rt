@@ -12,9 +12,9 @@ use std::alloc::{AllocError, AllocFailed};
 /// Why a call gave nothing. What it leaves then is said at the call, and is the same for both.
 #[derive(Clone, Copy, PartialEq, Eq, Debug)]
 pub enum ScopeFault {
-    /// The script's fault.
+    /// The fault that the script has by the machine's definition.
     Script(Fault),
-    /// There was no memory.
+    /// There was no memory, whatever the definition says.
     NoMemory,
 }
 

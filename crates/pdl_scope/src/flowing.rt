@@ -338,7 +338,7 @@ pub(crate) fn let_all_go<L: Ledger>(
 
 /// Whether one of these arrays has a flow's root as its root. Where there are no flows, none of the
 /// arrays is looked up.
-#[tactic(auto, using(crate::proofs::NoFlows::no_flow))]
+#[tactic(auto, using(crate::proofs::FlowingNoFlows::no_flow))]
 fn have_flow(engine: &Engine, flows: &[KeptFlow], ids: &[ArrayId]) -> bool
     requires rising { RootsRise flows.now }
     requires live { AreLive engine.now.world ids.now }

@@ -44,7 +44,7 @@ impl KeptFlow {
         }
     }
 
-    /// Its root.
+    /// The array that has the elements of the formula.
     pub(crate) fn root(&self) -> ArrayId
         ensures { result ≡ self.now.root }
     {

@@ -225,7 +225,7 @@ fn is_altered(plan: &[Change], root: ArrayId) -> bool
     find_change(plan, root).is_some()
 }
 
-/// Whether an array is the one that is noted.
+/// Whether an array is noted, and is this one.
 fn is_noted(noted: Option<ArrayId>, id: ArrayId) -> bool
     ensures { IsTrue result ↔ (noted ≡ Some id) }
 {

@@ -72,7 +72,7 @@ impl Model for Kernels {
 }
 
 impl Kernels {
-    /// No kernels.
+    /// No kernels. It takes no memory.
     pub fn new(alloc: Global) -> Kernels
         ensures { result ≡ [] }
     {
@@ -81,7 +81,7 @@ impl Kernels {
         }
     }
 
-    /// The kernel of a name.
+    /// The kernel that a name is defined as, if it is.
     pub fn get(&self, name: &Name) -> Option<&DefinedKernel>
         ensures { option_map (λ k. k.now) result ≡ found self.now name.now }
     {

@@ -29,7 +29,7 @@ impl Model for Names {
 }
 
 impl Names {
-    /// No names.
+    /// No names. It takes no memory.
     pub fn new(alloc: Global) -> Names
         ensures { result.entries ≡ [] }
     {
@@ -38,7 +38,7 @@ impl Names {
         }
     }
 
-    /// The array of a name.
+    /// The array that a name is bound to, if it is.
     pub fn get(&self, name: &Name) -> Option<ArrayId>
         ensures { result ≡ found self.now.entries name.now }
     {

@@ -117,7 +117,7 @@ impl Scope {
         self.alloc
     }
 
-    /// The array of a name.
+    /// The array that a name is bound to, if it is.
     pub fn number_of(&self, name: &Name) -> Option<ArrayId>
         ensures number { result ≡ number_of self.now.names name.now }
         ensures live { IfSome result (IsLive self.now.arrays.world) }
@@ -334,7 +334,7 @@ impl Scope {
         self.kernels.define(name, kernel)
     }
 
-    /// Whether a name is a kernel's.
+    /// Whether a call of this name is a kernel's.
     pub fn has_kernel(&self, name: &Name) -> bool
         ensures { result ≡ is_some (found self.now.names.kernels name.now) }
     {

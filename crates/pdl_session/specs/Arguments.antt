@@ -57,7 +57,7 @@ abbrev pub one_array : List Given → Option ℕ
 one_array (Array v ∷ []) = Some v
 one_array _ = None
 
--- the text of an array and a text
+-- the text, where it stands alone behind an array
 abbrev pub array_and_text : List Given → Option (Bor (List ℕ))
 array_and_text (Array v ∷ Text t ∷ []) = Some t
 array_and_text _ = None

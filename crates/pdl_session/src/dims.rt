@@ -35,7 +35,7 @@ pub fn number_in<L: Ledger>(
 }
 
 /// The numbers that arguments are.
-#[tactic(auto, using(crate::proofs::Facts::reads_trans))]
+#[tactic(auto, using(crate::proofs::ScopeFacts::reads_trans))]
 pub fn numbers_in<L: Ledger>(
     scope: &mut Scope,
     given: &[Given],

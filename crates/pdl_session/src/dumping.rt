@@ -25,7 +25,7 @@ fn print_whole(out: &mut Vec<u8>, text: Vec<u8>) -> Result<(), AllocError>
 
 /// Prints the dump. It is made whole before a byte of it is printed. Each root is read once;
 /// nothing is, where a slot is attached, there is a flow or names would be too many.
-#[tactic(auto, using(crate::proofs::Dumped::dump_performed, crate::proofs::Dumped::dump_refused))]
+#[tactic(auto, using(crate::proofs::DumpingLemmas::dump_performed, crate::proofs::DumpingLemmas::dump_refused))]
 pub fn dump<L: Ledger>(
     scope: &mut Scope,
     out: &mut Vec<u8>,

@@ -77,7 +77,7 @@ pub fn eval<L: Ledger>(
             made
         }
         Expr::Call(name, args) => {
-            let none = Vec::new(scope.alloc());
+            let none = Vec::with_capacity(scope.alloc(), args.len())?;
             let given = take(scope, none, args, steps)?;
             call(scope, name, &given, steps)
         }
@@ -86,7 +86,7 @@ pub fn eval<L: Ledger>(
 
 /// The arguments of a call, evaluated in order, behind those that are given.
 #[cycle(eval)]
-#[tactic(auto, using(crate::proofs::Facts::grows_trans))]
+#[tactic(auto, using(crate::proofs::ScopeFacts::grows_trans))]
 pub fn take<'a, L: Ledger>(
     scope: &mut Scope,
     mut given: Vec<Given<'a>>,

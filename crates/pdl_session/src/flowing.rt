@@ -124,7 +124,7 @@ fn argument_formula(scope: &Scope, arg: &Arg) -> Result<Formula, ScopeFault>
     }
 }
 
-/// A formula in a box.
+/// A formula as an operand of a larger one.
 fn boxed(alloc: Global, formula: Formula) -> Result<Box<Formula>, AllocError>
     ensures { IfOk result (λ b. b.value ≡ formula) }
 {

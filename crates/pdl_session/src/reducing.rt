@@ -82,7 +82,7 @@ pub fn paired<L: Ledger>(
     }
 }
 
-/// The outcome that is a new array.
+/// The outcome of a call that gives a new array, or the fault that came in its place.
 fn new_array(found: Result<Made, ScopeFault>) -> Result<Outcome, ScopeFault>
     ensures value { (wanted : Result Made Fault) → Answers wanted found →
         AnswersAs outcome_of (and_then wanted (λ m. Ok (made m))) result }

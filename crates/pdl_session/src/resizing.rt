@@ -49,7 +49,7 @@ pub fn reshape<L: Ledger>(
         Some(id) => {
             cost_laws();
             scope.in_order();
-            let none = Vec::new(scope.alloc());
+            let none = Vec::with_capacity(scope.alloc(), sizes.len())?;
             let given = take(scope, none, sizes, steps)?;
             scope.in_order();
             resized(scope, id, &given, steps)

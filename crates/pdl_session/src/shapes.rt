@@ -20,7 +20,7 @@ pub fn one_array(given: &[Given]) -> Option<ArrayId>
     }
 }
 
-/// The text of an array and a text.
+/// The text, where it stands alone behind an array.
 pub fn array_and_text<'a>(given: &[Given<'a>]) -> Option<&'a [u8]>
     ensures { result ≡ array_and_text given.now }
 {

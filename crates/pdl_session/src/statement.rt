@@ -148,7 +148,7 @@ fn bind_list<L: Ledger>(
     calls_are_trees();
     match value {
         Expr::Call(function, args) => {
-            let none = Vec::new(scope.alloc());
+            let none = Vec::with_capacity(scope.alloc(), args.len())?;
             let given = take(scope, none, args, steps)?;
             bind_outputs(scope, bound, function, &given, steps)
         }
@@ -250,7 +250,7 @@ fn print_text(text: &[u8], out: &mut Vec<u8>) -> Result<(), AllocError>
 /// what can be attached. The array of a bare name that it assigns to is noted. Where it is refused,
 /// names and `out` are as they were, be it by a fault or by being out of memory; new arrays may have
 /// come.
-#[tactic(auto, using(crate::proofs::Statements::cut_front))]
+#[tactic(auto, using(crate::proofs::PerformedStatements::cut_front))]
 pub fn run<W: Watcher, L: Ledger, M: Ledger>(
     scope: &mut Scope,
     statement: &Statement,

@@ -57,7 +57,7 @@ pub fn assigned_to<L: Ledger>(
 
 /// The array of a target: its views, one after another, of the array of its name. A bare name takes
 /// no step, and any target no more than its expression.
-#[tactic(auto, using(crate::proofs::Facts::grows_trans))]
+#[tactic(auto, using(crate::proofs::ScopeFacts::grows_trans))]
 fn target<L: Ledger>(
     scope: &mut Scope,
     target: &Target,
@@ -98,7 +98,7 @@ fn alone<'a>(alloc: Global, id: ArrayId, more: usize) -> Result<Vec<Given<'a>>, 
 
 /// The call of a view word on the array that a tree gave, which is its first argument. To make that
 /// array ready, and what the others take, pays for it.
-#[tactic(auto, using(crate::proofs::Facts::grows_trans))]
+#[tactic(auto, using(crate::proofs::ScopeFacts::grows_trans))]
 fn call_on<L: Ledger>(
     scope: &mut Scope,
     id: ArrayId,

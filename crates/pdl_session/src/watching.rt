@@ -50,7 +50,7 @@ fn can_attach<W: Watcher>(watchers: &Vec<Option<W>>, watches: &[Option<ArrayId>]
     has_watcher(watchers, slot) && !is_attached(watches, slot)
 }
 
-/// Whether a slot has a watcher.
+/// Whether a slot has a watcher. One that `unwatch` emptied has none, nor has one past the last.
 fn has_watcher<W: Watcher>(watchers: &Vec<Option<W>>, slot: u64) -> bool
     ensures { result ≡ is_present (present_in (slots_by W.seen watchers.now.items)) slot }
 {
@@ -58,7 +58,7 @@ fn has_watcher<W: Watcher>(watchers: &Vec<Option<W>>, slot: u64) -> bool
     at < watchers.len() && watchers[at].is_some()
 }
 
-/// Whether a slot is attached to an array.
+/// Whether a slot is attached to an array. One past the last isn't.
 fn is_attached(watches: &[Option<ArrayId>], slot: u64) -> bool
     ensures { result ≡ is_some (watch_of watches.now slot) }
 {

@@ -16,7 +16,7 @@ use Rattle.pdl_shell.specs.Answers.{Ending, Gives, HasReason, IsWhole, IsShort, 
 use Rattle.pdl_shell.specs.Headline.{MayHaveEnded}
 use Rattle.pdl_shell.specs.HeadlineSlots.{CountIsKept, IsFinished, FinishesInTurn}
 use Rattle.pdl_shell.proofs.HeadlineLemmas.{count_of, short_front}
-use Rattle.pdl_shell.proofs.Guards.{closes_at, ended_at, told_still, some_is, set_at, missed_of}
+use Rattle.pdl_shell.proofs.AnswerGuards.{closes_at, ended_at, told_still, some_is, set_at, missed_of}
 
 -- a call came to its end, stopped short, or stopped where it finished watchers
 ways : (status : Status) (e : Ending) (old new : Outlets) → Gives status e old new → IsWhole e old new ⊎ (IsShort e old new ⊎ ClosesShort e old new)

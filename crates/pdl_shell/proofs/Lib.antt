@@ -1,16 +1,16 @@
-pub mod WordLemmas
-pub mod Texts
-pub mod StatementCount
-pub mod SlotsHeard
-pub mod Taking
-pub mod Ran
-pub mod Refusing
-pub mod Following
-pub mod Carrying
-pub mod Parts
-pub mod Plain
+pub mod CommandWords
+pub mod SummaryTexts
+pub mod GeneratedCount
+pub mod OutsideSlots
+pub mod AnswersTaken
+pub mod RanLemmas
+pub mod CourseRefusals
+pub mod CourseFollowed
+pub mod PaceCarried
+pub mod CourseParts
+pub mod UnreadPlain
 pub mod HeadlineLemmas
-pub mod Whole
-pub mod Guards
+pub mod AnswersWhole
+pub mod AnswerGuards
 pub mod HeadlineSlotsLemmas
-mod WorkedRuns
+mod TwoStatementRuns

@@ -61,7 +61,7 @@ command_of (first ∷ second ∷ third ∷ fourth ∷ words) = None
 abbrev pub asked_by : {A : Type 0} → (words : List (String A)) → Option Command
 asked_by words = command_of (map string_bytes words)
 
--- whether the source is read
+-- whether the source is read: for a run of its script alone
 abbrev pub reads_source : Option Command → Bool
 reads_source None = false
 reads_source (Some (Run keep)) = true

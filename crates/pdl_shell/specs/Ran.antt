@@ -17,10 +17,10 @@ pub record IsKept (old : State) (old_slots : Slots) (now : State) (text : List �
   pub slots : now_slots ≡ old_slots
 
 -- what is left of the state and of the slots, and what is printed, where this is wanted
-abbrev pub Leaves : (wanted : Result Done Fault) → (state : State) → (slots : Slots)
+abbrev pub LeavesState : (wanted : Result Done Fault) → (state : State) → (slots : Slots)
     → Result (Unit {0}) StepFault → (now : State) → (text : List ℕ) → (slots_now : Slots) → Type 0
-Leaves wanted state slots (Ok x) now text slots_now = HasDone wanted now [] text slots slots_now
-Leaves wanted state slots (Err e) now text slots_now =
+LeavesState wanted state slots (Ok x) now text slots_now = HasDone wanted now [] text slots slots_now
+LeavesState wanted state slots (Err e) now text slots_now =
     IsRefusal wanted slots slots_now e × UnlessWatcher e (IsKept state slots now text slots_now)
 
 -- unless a watcher failed, the next statement can be run

@@ -76,7 +76,7 @@ impl Spelled {
         self.length = end;
     }
 
-    // The bytes.
+    // What was added so far.
     fn bytes(&self) -> &[u8]
         ensures { result.now ≡ self.now }
     {
@@ -85,7 +85,7 @@ impl Spelled {
 }
 
 impl Line {
-    // Its bytes.
+    // The line as it is written, with its newline.
     fn spelled(&self) -> Spelled
         ensures { result ≡ self.now }
     {
@@ -99,7 +99,7 @@ impl Line {
         spelled
     }
 
-    // Writes it.
+    // Writes it, or its beginning where the sink fails.
     pub(crate) fn write<K: Sink>(&self, sink: &mut K) -> Result<(), Stop>
         ensures whole { OnOk result (Appends (K.taken sink.old) (K.taken sink.new) self.now) }
         ensures prefix { OnErr result

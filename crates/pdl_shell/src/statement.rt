@@ -8,7 +8,7 @@ ghost use Rattle.pdl_machine.specs.Reads.{reads};
 ghost use Rattle.pdl_machine.specs.Run.{step_read, mark_step};
 ghost use Rattle.pdl_session.specs.Watching.{AreServed};
 ghost use Rattle.pdl_shell.specs.Marks.{mark_of};
-ghost use Rattle.pdl_shell.specs.Ran.{Leaves, AreServedAfter};
+ghost use Rattle.pdl_shell.specs.Ran.{LeavesState, AreServedAfter};
 
 use crate::mark::Mark;
 use crate::parsing::{Rooms, find_tokens, of_parsing, plain_text};
@@ -38,7 +38,7 @@ fn run_text<W: Watcher, L: Ledger, M: Ledger>(
     requires served { AreServed session.old.state.watches (slots_by W.seen watchers.old.items) }
     ensures ran { let slots = slots_by W.seen watchers.old.items in
         let wanted = step_read number (present_in slots) session.old.state (reads text.now) in
-        Leaves wanted session.old.state slots result session.new.state out.new.items
+        LeavesState wanted session.old.state slots result session.new.state out.new.items
         (slots_by W.seen watchers.new.items) }
     ensures served { AreServedAfter result session.new.state.watches
         (slots_by W.seen watchers.new.items) }
@@ -69,7 +69,7 @@ fn run_statement<W: Watcher, L: Ledger, M: Ledger>(
     ensures ran { let slots = slots_by W.seen watchers.old.items in
         let wanted = step_read number (present_in slots) session.old.state
         (Ok (statement_of statement.now)) in
-        Leaves wanted session.old.state slots result session.new.state out.new.items
+        LeavesState wanted session.old.state slots result session.new.state out.new.items
         (slots_by W.seen watchers.new.items) }
     ensures served { AreServedAfter result session.new.state.watches
         (slots_by W.seen watchers.new.items) }
@@ -93,7 +93,7 @@ pub(crate) fn run_mark<W: Watcher, L: Ledger, M: Ledger>(
     requires served { AreServed session.old.state.watches (slots_by W.seen watchers.old.items) }
     ensures ran { let slots = slots_by W.seen watchers.old.items in
         let wanted = mark_step number (present_in slots) session.old.state (mark_of mark.now) in
-        Leaves wanted session.old.state slots result session.new.state out.new.items
+        LeavesState wanted session.old.state slots result session.new.state out.new.items
         (slots_by W.seen watchers.new.items) }
     ensures served { AreServedAfter result session.new.state.watches
         (slots_by W.seen watchers.new.items) }

@@ -146,9 +146,9 @@ abbrev pub is_too_large : List ℕ → List ℕ → SigArg → Bool
 is_too_large sizes broadcast a = nat_lt extent_limit (extent (made_for sizes broadcast a))
 
 -- the shape of an argument of this role: the given one of an input, else the one made
-abbrev pub shape_of : Role → List ArgShape → List ℕ → List ℕ
-shape_of Input (g ∷ given) made = g.dims
-shape_of role given made = made
+abbrev pub argument_dims : Role → List ArgShape → List ℕ → List ℕ
+argument_dims Input (g ∷ given) made = g.dims
+argument_dims role given made = made
 
 -- what is left of the given shapes after an argument of this role
 abbrev pub given_after : Role → List ArgShape → List ArgShape
@@ -159,7 +159,7 @@ abbrev pub shapes : (sizes broadcast : List ℕ) → (args : List SigArg) → (g
     → List (List ℕ)
 shapes sizes broadcast [] given = []
 shapes sizes broadcast (a ∷ args) given =
-    shape_of a.role given (made_for sizes broadcast a)
+    argument_dims a.role given (made_for sizes broadcast a)
     ∷ shapes sizes broadcast args (given_after a.role given)
 
 -- what a call resolves to, by the named sizes and the broadcast dimensions

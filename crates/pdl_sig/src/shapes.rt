@@ -2,7 +2,7 @@
 ghost use Rattle.std.specs.Prelude.{◌≡◌, ◌*◌, ◌++◌, ◌≤◌, false, drop, length, nat_lt, IfOk};
 ghost use Rattle.std.specs.List.{list_any};
 ghost use Rattle.pdl_shape.specs.Shape.{IsDims, dims_limit, extent};
-ghost use Rattle.pdl_sig.specs.Resolution.{inputs, handed, work_limit, is_both, is_stretched, made, made_for, has_too_many, is_too_large, shape_of, given_after, shapes};
+ghost use Rattle.pdl_sig.specs.Resolution.{inputs, handed, work_limit, is_both, is_stretched, made, made_for, has_too_many, is_too_large, argument_dims, given_after, shapes};
 
 use crate::cores::{core_sizes, padded};
 use crate::inputs::{input, is_given};
@@ -133,7 +133,7 @@ pub fn is_too_much(count: u32, sizes: &[u32]) -> bool
 }
 
 /// The shape of an argument: the given one of an input, else the one that the call makes.
-fn shape_of(
+fn argument_dims(
     alloc: Global,
     sizes: &[u32],
     broadcast: &[u32],
@@ -142,7 +142,7 @@ fn shape_of(
 ) -> Result<Dims, AllocError>
     requires { IsDims (made_for sizes.now broadcast.now arg.now) }
     ensures { let made = made_for sizes.now broadcast.now arg.now in
-        IfOk result (λ shape. shape ≡ shape_of arg.now.role given.now made) }
+        IfOk result (λ shape. shape ≡ argument_dims arg.now.role given.now made) }
 {
     if matches!(arg.role, Role::Input) && !given.is_empty() {
         return Ok(copy_dims(&given[0].dims));
@@ -178,7 +178,7 @@ pub fn shapes(
     let mut found = Vec::new(alloc);
     let mut left = given;
     for arg in args {
-        found.push(shape_of(alloc, sizes, broadcast, arg, left)?)?;
+        found.push(argument_dims(alloc, sizes, broadcast, arg, left)?)?;
         left = given_after(arg.role, left);
     }
     Ok(found)

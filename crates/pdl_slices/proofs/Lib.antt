@@ -1,9 +1,9 @@
-pub mod Cuts
-pub mod Bytes
-pub mod Spelled
-pub mod Sound
-pub mod Moves
-pub mod Endings
-pub mod Outcomes
-pub mod Meanings
+pub mod RefusalCuts
+pub mod SliceReadingBytes
+pub mod GrammarComplete
+pub mod GrammarSound
+pub mod SliceReadingMoves
+pub mod SliceReadingEndings
+pub mod SliceReadingOutcomes
+pub mod MeaningLemmas
 mod WrittenTexts

@@ -14,7 +14,7 @@ pub record Collects (done : List SliceArg) (r : Reader) : Type 0 where
   pub zero_step : r.too_large ≡ false → r.zero_step ≡ list_any has_zero_step done
   pub kept : r.too_large ≡ false → r.count ≤ args_limit → r.args ≡ done
 
--- the reader is at this stage
+-- the reader has what the bytes up to this stage mean
 pub record Holds (s : Stage) (r : Reader) : Type 0 where
   pub place : r.place ≡ s.place
   pub args : Collects s.done r

@@ -22,10 +22,10 @@ use Rattle.pdl_syntax.specs.Formulas.{is_formula}
 use Rattle.pdl_syntax.specs.StatementTree.{StatementTree, View, bind, bind_list, assign, show, show_text, sever, reshape, vars, dump, flow, pp_def, watch, unwatch}
 use Rattle.pdl_syntax.specs.Statements.{SpellsBrackets, no_brackets, brackets, SpellsNames, one_name, more_names, SpellsViews, no_views, one_view, SpellsText, plain_text, labelled, SpellsCalled, by_word, by_method, SpellsBinding, binds_value, binds_severed, binds_names, SpellsStatement, binds, my_binds, assigns, shows_text, shows, shows_info, severs, reshapes, undefs, lists_names, dumps, flows, defines, watches, unwatches}
 use Rattle.pdl_syntax.specs.StatementReading.{at_end, texts_at, code_at, define_at, undef_at, watch_at, names_at, all_names_at, expression_to_end_at, behind_at, valued_at, called_step, called_at, bind_at, bind_list_at, views_at, assignment_at, statement_of_name_at, binding_at, show_at, statement_at, read_statement}
-use Rattle.pdl_syntax.proofs.Turns.{methods_stop, methods_turn}
-use Rattle.pdl_syntax.proofs.Complete.{Ends, ends_nothing, Methods, complete, finished, read_whole, read_postfix, begins, shorter}
+use Rattle.pdl_syntax.proofs.ExpressionReadingTurns.{methods_stop, methods_turn}
+use Rattle.pdl_syntax.proofs.GrammarComplete.{Ends, ends_nothing, Methods, complete, finished, read_whole, read_postfix, begins, shorter}
 use Rattle.pdl_syntax.proofs.StatementSound.{after_keyword_is, statement_sound}
-use Rattle.pdl_syntax.proofs.Growing.{level_grown, grown_stop}
+use Rattle.pdl_syntax.proofs.ExpressionReadingGrowing.{level_grown, grown_stop}
 
 names_stop : (source : List ℕ) (k : ℕ) (names : List (List ℕ)) (ts : List Lexeme) → after Comma ts ≡ None → names_at source k names ts ≡ Some (names, ts)
 unfolding names_at

@@ -21,10 +21,10 @@ use Rattle.pdl_syntax.specs.Formulas.{is_formula}
 use Rattle.pdl_syntax.specs.StatementTree.{StatementTree, View, bind, bind_list, assign, show, show_text, sever, reshape, undef, vars, dump, flow, watch, unwatch}
 use Rattle.pdl_syntax.specs.Statements.{SpellsBrackets, no_brackets, brackets, SpellsNames, one_name, more_names, SpellsViews, no_views, one_view, SpellsText, plain_text, labelled, SpellsCalled, by_word, by_method, SpellsBinding, binds_value, binds_severed, binds_names, SpellsStatement, binds, my_binds, assigns, shows_text, shows, shows_info, severs, reshapes, undefs, lists_names, dumps, flows, defines, watches, unwatches}
 use Rattle.pdl_syntax.specs.StatementReading.{at_end, texts_at, code_at, signature_at, define_at, undef_at, watch_at, names_at, all_names_at, expression_to_end_at, behind_at, valued_at, called_step, called_at, bind_at, bind_names, bind_list_at, views_at, assign_value, assignment_at, reshape_at, sever_at, statement_of_name_at, bind_name, binding_at, value_at, show_at, formula_at, flow_value_at, flow_at, statement_at}
-use Rattle.pdl_syntax.proofs.Peeks.{after_is, quoted_is}
-use Rattle.pdl_syntax.proofs.Sound.{closed_sound, maybe_sound, primary_sound, methods_sound, postfix_sound, level_sound, reader_sound_expr}
-use Rattle.pdl_syntax.proofs.Growing.{level_grown}
-use Rattle.pdl_syntax.proofs.Complete.{complete}
+use Rattle.pdl_syntax.proofs.ExpressionReadingPeeks.{after_is, quoted_is}
+use Rattle.pdl_syntax.proofs.GrammarSound.{closed_sound, maybe_sound, primary_sound, methods_sound, postfix_sound, level_sound, reader_sound_expr}
+use Rattle.pdl_syntax.proofs.ExpressionReadingGrowing.{level_grown}
+use Rattle.pdl_syntax.proofs.GrammarComplete.{complete}
 
 pub after_keyword_is : (word : AnyKeyword) (ts : List Lexeme) {us : List Lexeme} → after_keyword word ts ≡ Some us → ts ≡ Arrow ∷ Keyword word ∷ us
 after_keyword_is word ts {us = us} e =

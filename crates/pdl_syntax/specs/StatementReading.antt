@@ -165,7 +165,7 @@ module _ (source : List ℕ) (f : Kind → List Lexeme → Read Tree) where
       option_and_then (λ x. option_and_then (flow_value_at (bytes_at source x.0))
       (after Equals x.1)) (name_at ts)
 
-  -- all lexemes as a statement
+  -- the statement that all lexemes spell together, by the first of them
   unfoldable pub statement_at : List Lexeme → Option StatementTree
   statement_at [] = None
   statement_at (Keyword My ∷ ts) = binding_at ts

@@ -30,7 +30,7 @@ pub data StatementTree : Type 0 where
 abbrev pub view_of : ViewCall → View
 view_of v = (v.method, args_of v.args.items none)
 
--- a statement's tree
+-- what the statement of code is seen as: its expressions by their trees
 abbrev pub statement_of : Statement → StatementTree
 statement_of (Bind name value severs) = bind name (tree_of value) severs
 statement_of (BindList names value) = bind_list names.items (tree_of value)

@@ -39,7 +39,7 @@ impl<'s> Reader<'s> {
         Ok(Expr::Call(self.name_of(span)?, args))
     }
 
-    #[tactic(auto, using(crate::proofs::Trees::args_of_push))]
+    #[tactic(auto, using(crate::proofs::TreeLemmas::args_of_push))]
     pub fn with_text(&self, span: Span, mut args: Vec<Arg>) -> Result<Vec<Arg>, Refusal>
         ensures ok { IfOk result
             (λ all. args_of all.items none
@@ -72,7 +72,7 @@ pub fn binary_expr(alloc: Global, op: BinaryOp, a: Expr, b: Expr) -> Result<Expr
     Ok(Expr::Binary(op, boxed(alloc, a)?, boxed(alloc, b)?))
 }
 
-#[tactic(auto, using(crate::proofs::Trees::args_of_push))]
+#[tactic(auto, using(crate::proofs::TreeLemmas::args_of_push))]
 pub fn with_value(mut args: Vec<Arg>, e: Expr) -> Result<Vec<Arg>, Refusal>
     ensures ok { IfOk result
         (λ all. args_of all.items none ≡ value (args_of args.items none) (tree_of e)) }
@@ -82,7 +82,7 @@ pub fn with_value(mut args: Vec<Arg>, e: Expr) -> Result<Vec<Arg>, Refusal>
     Ok(args)
 }
 
-#[tactic(auto, using(crate::proofs::Trees::args_of_push))]
+#[tactic(auto, using(crate::proofs::TreeLemmas::args_of_push))]
 pub fn with_type(mut args: Vec<Arg>, ty: Ty) -> Result<Vec<Arg>, Refusal>
     ensures ok { IfOk result
         (λ all. args_of all.items none ≡ of_type (args_of args.items none) ty) }

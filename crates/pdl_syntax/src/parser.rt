@@ -76,7 +76,7 @@ pub fn parse_within(
     read(alloc, text, lexemes.as_slice())
 }
 
-#[tactic(auto, using(crate::proofs::Parsing::unread, crate::proofs::Parsing::read_as))]
+#[tactic(auto, using(crate::proofs::ParsedAnswers::unread, crate::proofs::ParsedAnswers::read_as))]
 fn read(alloc: Global, text: &[u8], lexemes: &[Lexeme]) -> Result<Statement, ParseFault>
     requires { length lexemes.now ≤ statement_limit }
     ensures { IsParsed (checked_lexemes text.now lexemes.now) result }

@@ -3,12 +3,12 @@
 use std::fmt::Debug;
 use std::process::Abort;
 
-/// What was found is what is wanted.
+/// Fails the test, showing both values, where what was found isn't what is wanted.
 pub fn same<T: PartialEq + Debug + Drop>(rt: &impl Abort, found: T, want: T) {
     assert_eq!(rt; found, want);
 }
 
-/// The list that was found is the one that is wanted.
+/// As `same`, of the elements of two lists in their order.
 pub fn same_list<T: PartialEq + Debug>(rt: &impl Abort, found: &[T], want: &[T]) {
     assert_eq!(rt; found, want);
 }

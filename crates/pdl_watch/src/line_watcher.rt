@@ -45,7 +45,7 @@ impl<K: Sink + Drop> LineWatcher<K> {
         })
     }
 
-    /// The sink.
+    /// The sink that takes the lines.
     pub fn sink(&self) -> &K
         ensures { result.now ≡ sink_of self.now }
     {

@@ -45,7 +45,7 @@ ReachedAreSeenAsBefore =
 abbrev pub SweepsSoundly : Type 0
 SweepsSoundly = (w : World) (held : List ℕ) → IsSound w → IsSound (sweep w held)
 
--- no number comes
+-- numbers that lie below a bound lie below it after a sweep
 abbrev pub NoNumberComes : Type 0
 NoNumberComes =
     (w : World) (n : ℕ) (held : List ℕ) → NumbersBelow n w → NumbersBelow n (sweep w held)

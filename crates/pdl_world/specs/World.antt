@@ -75,7 +75,7 @@ has_repeats [] = false
 has_repeats (None ∷ ps) = has_repeats ps
 has_repeats (Some i ∷ ps) = if is_among i ps then true else has_repeats ps
 
--- the elements of a root
+-- the elements of the root r, and none where there is no such root
 abbrev pub root_elements : World → ℕ → List ℤ
 root_elements [] r = []
 root_elements ((k, root ty ds es) ∷ w) r = if k == r then es else root_elements w r

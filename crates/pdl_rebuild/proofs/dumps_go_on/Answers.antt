@@ -1,4 +1,4 @@
-use Rattle.pdl_rebuild.proofs.Running.{dumps_go_on, runs_begin_so}
+use Rattle.pdl_rebuild.proofs.RunningLemmas.{dumps_go_on, runs_begin_so}
 use Rattle.pdl_rebuild.proofs.dumps_go_on.Goals as goal
 
 pub returns : goal.returns

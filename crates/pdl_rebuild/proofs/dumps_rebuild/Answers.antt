@@ -1,4 +1,4 @@
-use Rattle.pdl_rebuild.proofs.Whole.{dumps_rebuild}
+use Rattle.pdl_rebuild.proofs.RebuildingWhole.{dumps_rebuild}
 use Rattle.pdl_rebuild.proofs.dumps_rebuild.Goals as goal
 
 pub returns : goal.returns

@@ -1,4 +1,4 @@
-use Rattle.pdl_rebuild.proofs.Pieces.{PieceLaws, pieces_are_given, least_are_given}
+use Rattle.pdl_rebuild.proofs.MadePieces.{PieceLaws, pieces_are_given, least_are_given}
 use Rattle.pdl_rebuild.proofs.elements_are_given.Goals as goal
 
 pub returns : goal.returns

@@ -1,4 +1,4 @@
-use Rattle.pdl_rebuild.proofs.Named.{names_are_bound, names_end, last_but_one_goes, kernels_are_defined}
+use Rattle.pdl_rebuild.proofs.NamedLemmas.{names_are_bound, names_end, last_but_one_goes, kernels_are_defined}
 use Rattle.pdl_rebuild.proofs.names_are_made.Goals as goal
 
 pub returns : goal.returns

@@ -1,4 +1,4 @@
-use Rattle.pdl_rebuild.proofs.Roots.{roots_are_made}
+use Rattle.pdl_rebuild.proofs.MadeRoots.{roots_are_made}
 use Rattle.pdl_rebuild.proofs.roots_are_made.Goals as goal
 
 pub returns : goal.returns

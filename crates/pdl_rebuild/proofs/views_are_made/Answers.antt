@@ -1,4 +1,4 @@
-use Rattle.pdl_rebuild.proofs.Views.{ViewLaws, affine_views_are_made, chosen_views_are_made}
+use Rattle.pdl_rebuild.proofs.ShownViews.{ViewLaws, affine_views_are_made, chosen_views_are_made}
 use Rattle.pdl_rebuild.proofs.views_are_made.Goals as goal
 
 pub returns : goal.returns

@@ -1,4 +1,4 @@
-use Rattle.pdl_reread.proofs.Rereading as proof
+use Rattle.pdl_reread.proofs.RereadingLemmas as proof
 use Rattle.pdl_reread.proofs.dumps_are_reread.Goals as goal
 
 pub returns : goal.returns

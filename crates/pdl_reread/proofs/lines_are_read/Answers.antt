@@ -1,4 +1,4 @@
-use Rattle.pdl_reread.proofs.Spelled.{lines_are_read}
+use Rattle.pdl_reread.proofs.TreeSpelling.{lines_are_read}
 use Rattle.pdl_reread.proofs.lines_are_read.Goals as goal
 
 pub returns : goal.returns

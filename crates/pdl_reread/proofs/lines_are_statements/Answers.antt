@@ -1,4 +1,4 @@
-use Rattle.pdl_reread.proofs.Cut as cut
+use Rattle.pdl_reread.proofs.ScriptCuts as cut
 use Rattle.pdl_reread.proofs.lines_are_statements.Goals as goal
 
 pub returns : goal.returns

@@ -107,7 +107,7 @@ pub fn range<L: Ledger>(
 }
 
 /// Windows at the corners that an index lists.
-#[tactic(auto, using(crate::proofs::Facts::reads_trans))]
+#[tactic(auto, using(crate::proofs::ScopeFacts::reads_trans))]
 fn windows_at<L: Ledger>(
     scope: &mut Scope,
     ind: ArrayId,
@@ -140,7 +140,7 @@ fn windows_at<L: Ledger>(
 }
 
 /// The sizes of windows, else one 0, and what stands beyond the edges, else a refusal.
-#[tactic(auto, using(crate::proofs::Facts::reads_trans))]
+#[tactic(auto, using(crate::proofs::ScopeFacts::reads_trans))]
 fn window_parts<L: Ledger>(
     scope: &mut Scope,
     rest: &[Given],

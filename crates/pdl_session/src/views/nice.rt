@@ -43,7 +43,7 @@ pub fn nice<L: Ledger>(
 }
 
 /// A pattern and values: they look the array up, or are the numbers of a slice.
-#[tactic(auto, using(crate::proofs::Facts::reads_trans))]
+#[tactic(auto, using(crate::proofs::ScopeFacts::reads_trans))]
 fn nice_by<L: Ledger>(
     scope: &mut Scope,
     pattern: &[u8],
@@ -108,7 +108,8 @@ fn slice_in<L: Ledger>(
     }
 }
 
-/// A slice by a pattern and its numbers.
+/// The slice by the text that the pattern is with these numbers, or `WrongArguments` where its `#`
+/// aren't as many.
 fn slice_by_numbers(alloc: Global, pattern: &[u8], numbers: &[i64]) -> Result<Outcome, ScopeFault>
     ensures value { AnswersAs outcome_of (slice_by_numbers pattern.now numbers.now) result }
     ensures made { IfOk result IsOutcomeMade }

@@ -3,8 +3,8 @@ use Rattle.std.proofs.Math.Seq.{take_all}
 use Rattle.std.proofs.lemmas.Result.{IfErr-weaker}
 use Rattle.pdl_slices.specs.SliceReading.{run, finished, stage_after, kind_of, first_stage}
 use Rattle.pdl_slices.specs.Collected.{Takes, Ends}
-use Rattle.pdl_slices.proofs.Endings.{bad_byte, bad_end}
-use Rattle.pdl_slices.proofs.Outcomes.{at_next, takes_none, ends_none, ends_args, verdict_reads}
+use Rattle.pdl_slices.proofs.SliceReadingEndings.{bad_byte, bad_end}
+use Rattle.pdl_slices.proofs.SliceReadingOutcomes.{at_next, takes_none, ends_none, ends_args, verdict_reads}
 use Rattle.pdl_slices.proofs.read_slice.Goals as goal
 
 pub loop-at-init : goal.loop-at-init

@@ -1,4 +1,4 @@
-use Rattle.pdl_slices.proofs.Outcomes.{IsAt}
+use Rattle.pdl_slices.proofs.SliceReadingOutcomes.{IsAt}
 use Rattle.pdl_slices.proofs.read_slice.Given as goal
 
 -- the reader is at the stage after the bytes before

@@ -1,6 +1,6 @@
-use Rattle.pdl_world.proofs.BasesStay.{assignments_leave_bases}
-use Rattle.pdl_world.proofs.Newest.{paths_stay, numbers_stay}
-use Rattle.pdl_world.proofs.Proved.{looks_stay, reads, reads_back, assigns_soundly}
+use Rattle.pdl_world.proofs.BaseLawStays.{assignments_leave_bases}
+use Rattle.pdl_world.proofs.WorldNewest.{paths_stay, numbers_stay}
+use Rattle.pdl_world.proofs.WorldLawsProved.{looks_stay, reads, reads_back, assigns_soundly}
 use Rattle.pdl_world.proofs.assignment_laws.Goals as goal
 
 pub returns-clause-looks : goal.returns-clause-looks

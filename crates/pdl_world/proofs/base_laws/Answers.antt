@@ -1,4 +1,4 @@
-use Rattle.pdl_world.proofs.Bases.{windows_show_arrays, live_have_windows}
+use Rattle.pdl_world.proofs.WindowBases.{windows_show_arrays, live_have_windows}
 use Rattle.pdl_world.proofs.base_laws.Goals as goal
 
 pub returns-clause-shown : goal.returns-clause-shown

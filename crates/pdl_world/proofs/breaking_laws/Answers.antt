@@ -1,5 +1,5 @@
-use Rattle.pdl_world.proofs.Below.{below_laws, looks_follow}
-use Rattle.pdl_world.proofs.Breaks.{formulas_break, refused_break}
+use Rattle.pdl_world.proofs.BreakLawBelow.{below_laws, looks_follow}
+use Rattle.pdl_world.proofs.WorldBreaks.{formulas_break, refused_break}
 use Rattle.pdl_world.proofs.breaking_laws.Goals as goal
 
 pub returns-clause-formulas : goal.returns-clause-formulas

@@ -1,4 +1,4 @@
-use Rattle.pdl_world.proofs.Severs.{cuts_leave_elements, cuts_are_roots, roots_are_uncut, cuts_leave_others, cuts_leave_families, cuts_take_their_views, cuts_soundly, cuts_leave_numbers}
+use Rattle.pdl_world.proofs.CutSevers.{cuts_leave_elements, cuts_are_roots, roots_are_uncut, cuts_leave_others, cuts_leave_families, cuts_take_their_views, cuts_soundly, cuts_leave_numbers}
 use Rattle.pdl_world.proofs.cut_laws.Goals as goal
 
 pub returns-clause-elements : goal.returns-clause-elements

@@ -1,6 +1,6 @@
-use Rattle.pdl_world.proofs.BasesStay.{older_bases_stay}
-use Rattle.pdl_world.proofs.Newest.{live_lie_below, roots_are_in_range, older_elements_stay, older_paths_stay}
-use Rattle.pdl_world.proofs.Proved.{places_lie_within, new_is_live, older_stay, joins_soundly}
+use Rattle.pdl_world.proofs.BaseLawStays.{older_bases_stay}
+use Rattle.pdl_world.proofs.WorldNewest.{live_lie_below, roots_are_in_range, older_elements_stay, older_paths_stay}
+use Rattle.pdl_world.proofs.WorldLawsProved.{places_lie_within, new_is_live, older_stay, joins_soundly}
 use Rattle.pdl_world.proofs.growth_laws.Goals as goal
 
 pub returns-clause-within : goal.returns-clause-within

@@ -1,4 +1,4 @@
-use Rattle.pdl_world.proofs.Keeping.{newest_keeps_all, newest_is_kept, more_keep_all, assigns_keep_all, cuts_keep_all, reshapes_keep_all, parents_are_live}
+use Rattle.pdl_world.proofs.KeepingLawLemmas.{newest_keeps_all, newest_is_kept, more_keep_all, assigns_keep_all, cuts_keep_all, reshapes_keep_all, parents_are_live}
 use Rattle.pdl_world.proofs.keeping_laws.Goals as goal
 
 pub returns-clause-newest : goal.returns-clause-newest

@@ -1,4 +1,4 @@
-use Rattle.pdl_world.proofs.Newest.{new_root_is_seen, new_root_is_whole, new_root_has_path, new_view_is_seen, new_view_has_path}
+use Rattle.pdl_world.proofs.WorldNewest.{new_root_is_seen, new_root_is_whole, new_root_has_path, new_view_is_seen, new_view_has_path}
 use Rattle.pdl_world.proofs.newest_laws.Goals as goal
 
 pub returns-clause-root_seen : goal.returns-clause-root_seen

@@ -1,4 +1,4 @@
-use Rattle.pdl_world.proofs.Parts.{wholes_are_parts, parts_join, nothing_stays, parts_leave_looks, parts_read, parts_leave_others, parts_leave_later, parts_leave_rest, parts_assign_soundly}
+use Rattle.pdl_world.proofs.PartLawLemmas.{wholes_are_parts, parts_join, nothing_stays, parts_leave_looks, parts_read, parts_leave_others, parts_leave_later, parts_leave_rest, parts_assign_soundly}
 use Rattle.pdl_world.proofs.part_laws.Goals as goal
 
 pub returns-clause-wholes : goal.returns-clause-wholes

@@ -1,4 +1,4 @@
-use Rattle.pdl_world.proofs.Repeats.{repeats_have_positions, positions_repeat}
+use Rattle.pdl_world.proofs.WindowLawRepeats.{repeats_have_positions, positions_repeat}
 use Rattle.pdl_world.proofs.repeat_laws.Goals as goal
 
 pub returns-clause-found : goal.returns-clause-found

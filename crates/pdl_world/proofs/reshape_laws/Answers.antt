@@ -1,7 +1,7 @@
-use Rattle.pdl_world.proofs.Breaks.{reshapes_leave_others, reshapes_leave_numbers, soundness_decides}
-use Rattle.pdl_world.proofs.Replaces.{is_fitted}
-use Rattle.pdl_world.proofs.Severs.{reshaped_is_seen, views_are_found}
-use Rattle.pdl_world.proofs.ViewsSeen.{views_are_seen}
+use Rattle.pdl_world.proofs.WorldBreaks.{reshapes_leave_others, reshapes_leave_numbers, soundness_decides}
+use Rattle.pdl_world.proofs.WorldReplaces.{is_fitted}
+use Rattle.pdl_world.proofs.CutSevers.{reshaped_is_seen, views_are_found}
+use Rattle.pdl_world.proofs.BreakLawViews.{views_are_seen}
 use Rattle.pdl_world.proofs.reshape_laws.Goals as goal
 
 pub returns-clause-fitted : goal.returns-clause-fitted

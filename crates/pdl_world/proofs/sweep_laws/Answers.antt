@@ -1,5 +1,5 @@
-use Rattle.pdl_world.proofs.BasesStay.{reached_keep_bases, sweeps_leave_looks}
-use Rattle.pdl_world.proofs.Sweeps.{kept_were_reached, reached_are_kept, held_are_kept, reached_are_seen_as_before, sweeps_soundly, below_sweep, new_goes_unheld}
+use Rattle.pdl_world.proofs.BaseLawStays.{reached_keep_bases, sweeps_leave_looks}
+use Rattle.pdl_world.proofs.SweptLemmas.{kept_were_reached, reached_are_kept, held_are_kept, reached_are_seen_as_before, sweeps_soundly, below_sweep, new_goes_unheld}
 use Rattle.pdl_world.proofs.sweep_laws.Goals as goal
 
 pub returns-clause-kept : goal.returns-clause-kept

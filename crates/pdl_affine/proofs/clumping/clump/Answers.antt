@@ -6,8 +6,8 @@ use Rattle.pdl_shape.specs.Shape.{size_of}
 use Rattle.pdl_shape.specs.Triple.{Triple, IsPlace}
 use Rattle.pdl_affine.specs.Views.{clumped}
 use Rattle.pdl_affine.specs.Windows.{Shows, LiesIn, form_place}
-use Rattle.pdl_affine.proofs.Shown.{start_place, made_triple, made_shown, made_shows, made_lies}
-use Rattle.pdl_affine.proofs.Clumps.{clump_run_at, clump_window}
+use Rattle.pdl_affine.proofs.WindowPlaces.{start_place, made_triple, made_shown, made_shows, made_lies}
+use Rattle.pdl_affine.proofs.ViewClumps.{clump_run_at, clump_window}
 use Rattle.pdl_affine.proofs.clumping.clump.Goals as goal
 
 pub counted_offset-offset-requires : goal.counted_offset-offset-requires

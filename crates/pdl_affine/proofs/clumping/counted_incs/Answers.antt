@@ -4,7 +4,7 @@ use mir.Val.{SFits}
 use Rattle.std.proofs.lemmas.Int.{to_z-of_z}
 use Rattle.std.proofs.lemmas.List.{length_push}
 use Rattle.pdl_affine.specs.Courses.{counting}
-use Rattle.pdl_affine.proofs.Shown.{counted_next, pushed}
+use Rattle.pdl_affine.proofs.WindowPlaces.{counted_next, pushed}
 use Rattle.pdl_affine.proofs.clumping.counted_incs.Goals as goal
 
 pub loop-i-preserved : goal.loop-i-preserved

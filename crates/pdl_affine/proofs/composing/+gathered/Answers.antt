@@ -2,7 +2,7 @@ use Rattle.std.proofs.Common.{◌≡◌, ◌∙◌, ℤ, pos, ◌+ℤ◌, ◌*�
 use mir.Syntax.{w128}
 use mir.Val.{SFits}
 use Rattle.std.proofs.lemmas.Int.{to_z-of_z}
-use Rattle.pdl_affine.proofs.Moved.{gathered_front}
+use Rattle.pdl_affine.proofs.CourseMoves.{gathered_front}
 use Rattle.pdl_affine.proofs.composing.+gathered.Goals as goal
 
 pieces : (s t t' r r' x x' f f' e e' g : ℤ) → s ≡ t' +ℤ r' → t' ≡ t → r' ≡ r → t ≡ x' *ℤ f' → x' ≡ x → f' ≡ f → f ≡ e' → e' ≡ e → g ≡ (x *ℤ e) +ℤ r → s ≡ g

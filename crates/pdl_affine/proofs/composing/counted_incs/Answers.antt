@@ -4,7 +4,7 @@ use mir.Val.{SFits}
 use Rattle.std.proofs.lemmas.Int.{to_z-of_z}
 use Rattle.std.proofs.lemmas.List.{length_push}
 use Rattle.pdl_affine.specs.Courses.{gathered, counting}
-use Rattle.pdl_affine.proofs.Shown.{counted_more, pushed}
+use Rattle.pdl_affine.proofs.WindowPlaces.{counted_more, pushed}
 use Rattle.pdl_affine.proofs.composing.counted_incs.Goals as goal
 
 pub loop-dimension-preserved : goal.loop-dimension-preserved

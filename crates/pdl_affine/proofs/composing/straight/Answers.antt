@@ -6,8 +6,8 @@ use Rattle.pdl_shape.specs.Shape.{size_of}
 use Rattle.pdl_shape.specs.Triple.{Triple, IsPlace}
 use Rattle.pdl_affine.specs.Windows.{Shows, LiesIn, form_place}
 use Rattle.pdl_affine.specs.Courses.{seen_form}
-use Rattle.pdl_affine.proofs.Shown.{start_place, made_triple, made_shown, made_shows, made_lies}
-use Rattle.pdl_affine.proofs.Sourced.{composing, composing_run, gathered_small}
+use Rattle.pdl_affine.proofs.WindowPlaces.{start_place, made_triple, made_shown, made_shows, made_lies}
+use Rattle.pdl_affine.proofs.CourseSources.{composing, composing_run, gathered_small}
 use Rattle.pdl_affine.proofs.composing.straight.Goals as goal
 
 pub counted_incs-incs-requires : goal.counted_incs-incs-requires

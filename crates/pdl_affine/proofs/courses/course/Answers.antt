@@ -2,9 +2,9 @@ use Rattle.std.proofs.Common.{sym, ap, subst, ◌∙◌, unwrap_or, position, �
 use Rattle.pdl_affine.specs.declared.forms.Form.TheVariants as forms
 use Rattle.pdl_affine.specs.Views.{sliced, exchanged, shifted, arranged, inserted, diagonal, squeezed}
 use Rattle.pdl_affine.specs.Courses.{lines_of_taken, seen_form, IsSound, IsCourse, course_at, full_course, diagonal_to}
-use Rattle.pdl_affine.proofs.Picks.{exchanged_course, shifted_course, arranged_course, inserted_course, diagonal_course, squeezed_course}
-use Rattle.pdl_affine.proofs.SliceCourses.{sliced_course}
-use Rattle.pdl_affine.proofs.Sounds.{true_is}
+use Rattle.pdl_affine.proofs.ViewPicks.{exchanged_course, shifted_course, arranged_course, inserted_course, diagonal_course, squeezed_course}
+use Rattle.pdl_affine.proofs.SlicingCourses.{sliced_course}
+use Rattle.pdl_affine.proofs.ViewForms.{true_is}
 use Rattle.pdl_affine.proofs.courses.course.Goals as goal
 
 pub returns-in-Sliced : goal.returns-in-Sliced

@@ -1,5 +1,5 @@
 use Rattle.std.proofs.Common.{arith, ◌∙◌, sym}
-use Rattle.pdl_affine.proofs.SizeLists.{kept_more, kept_same}
+use Rattle.pdl_affine.proofs.ViewSizes.{kept_more, kept_same}
 use Rattle.pdl_affine.proofs.courses.kept_before.Goals as goal
 use Rattle.pdl_affine.proofs.courses.kept_before.Goals.{then-is_kept, else-is_kept}
 

@@ -1,4 +1,4 @@
-use Rattle.pdl_affine.proofs.Inside.{sources_lie_within}
+use Rattle.pdl_affine.proofs.ViewPlaces.{sources_lie_within}
 use Rattle.pdl_affine.proofs.laws.view_laws.Goals as goal
 
 pub returns : goal.returns

@@ -1,4 +1,4 @@
-use Rattle.pdl_affine.proofs.Composed.{composed_show_views, uncomposed_are_in_order}
+use Rattle.pdl_affine.proofs.WindowComposition.{composed_show_views, uncomposed_are_in_order}
 use Rattle.pdl_affine.proofs.laws.window_laws.Goals as goal
 
 pub returns-clause-composed : goal.returns-clause-composed

@@ -1,8 +1,8 @@
 use Rattle.std.proofs.Common.{◌≡◌, ◌∙◌, ap, sym, subst}
 use Rattle.pdl_shape.specs.Triple.{whole_triple}
 use Rattle.pdl_affine.specs.Courses.{seen_form, IsSound}
-use Rattle.pdl_affine.proofs.Clumps.{whole_shown}
-use Rattle.pdl_affine.proofs.Sounds.{resolved_sound}
+use Rattle.pdl_affine.proofs.ViewClumps.{whole_shown}
+use Rattle.pdl_affine.proofs.ViewForms.{resolved_sound}
 use Rattle.pdl_affine.proofs.planning.compose.Goals as goal
 
 pub window-requires-clause-sound : goal.window-requires-clause-sound

@@ -1,6 +1,6 @@
 use Rattle.std.proofs.Common.{sym, subst}
 use Rattle.pdl_affine.specs.Courses.{AreSmall}
-use Rattle.pdl_affine.proofs.SizeLists.{dims_small}
+use Rattle.pdl_affine.proofs.ViewSizes.{dims_small}
 use Rattle.pdl_affine.proofs.planning.plan.Goals as goal
 
 pub resolve-requires-clause-small : goal.resolve-requires-clause-small

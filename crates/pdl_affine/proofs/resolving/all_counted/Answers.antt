@@ -6,7 +6,7 @@ use Rattle.std.proofs.lemmas.List.{append-nil, at_drop_all}
 use Rattle.pdl_shape.specs.Counting.{from_end}
 use Rattle.pdl_affine.specs.Courses.{places_before}
 use Rattle.pdl_affine.specs.Views.{all_counted}
-use Rattle.pdl_affine.proofs.Places.{number_next, number_taken}
+use Rattle.pdl_affine.proofs.CoursePlaces.{number_next, number_taken}
 use Rattle.pdl_affine.proofs.resolving.all_counted.Goals as goal
 
 pub loop-number-preserved : goal.loop-number-preserved

@@ -1,5 +1,5 @@
 use Rattle.std.proofs.Common.{ap, sym, ◌∙◌, ◌&&◌, ◌+◌}
-use Rattle.pdl_affine.proofs.Places.{left, left_step}
+use Rattle.pdl_affine.proofs.CoursePlaces.{left, left_step}
 use Rattle.pdl_affine.proofs.resolving.lists_all.Goals as goal
 
 pub loop-place-preserved : goal.loop-place-preserved

@@ -1,5 +1,5 @@
 use Rattle.std.proofs.Common.{le_trans}
-use Rattle.pdl_affine.proofs.SizeLists.{extent_take, no_size}
+use Rattle.pdl_affine.proofs.ViewSizes.{extent_take, no_size}
 use Rattle.pdl_affine.proofs.sizing.clump.Goals as goal
 
 pub unreachable-requires : goal.unreachable-requires

@@ -1,5 +1,5 @@
 use Rattle.std.proofs.Common.{arith}
-use Rattle.pdl_affine.proofs.SizeLists.{insert_large}
+use Rattle.pdl_affine.proofs.ViewSizes.{insert_large}
 use Rattle.pdl_affine.proofs.sizing.insert.Goals as goal
 
 pub returns-then-size-from-clause-err : goal.returns-then-size-from-clause-err

@@ -1,6 +1,6 @@
 use Rattle.std.proofs.Common.{ap, sym, ◌∙◌, ◌++◌, ◌∷◌, [], filter, not, ◌||◌, ◌==◌}
 use Rattle.pdl_affine.specs.Views.{lists, lowest_of}
-use Rattle.pdl_affine.proofs.SizeLists.{kept_next}
+use Rattle.pdl_affine.proofs.ViewSizes.{kept_next}
 use Rattle.pdl_affine.proofs.sizing.kept_dims.Goals as goal
 
 pub loop-place-preserved : goal.loop-place-preserved

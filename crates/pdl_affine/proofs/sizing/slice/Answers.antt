@@ -2,7 +2,7 @@ use Rattle.std.proofs.Common.{ap, sym, ◌∙◌, ◌++◌, ◌∷◌, [], get_o
 use Rattle.pdl_affine.specs.Slicing.{line_sizes}
 use Rattle.pdl_affine.specs.Courses.{lines_of_taken}
 use Rattle.pdl_affine.specs.declared.forms.Taken.TheVariants.{Kept}
-use Rattle.pdl_affine.proofs.SizeLists.{sizes_next}
+use Rattle.pdl_affine.proofs.ViewSizes.{sizes_next}
 use Rattle.pdl_affine.proofs.sizing.slice.Goals as goal
 
 pub loop-line-preserved : goal.loop-line-preserved

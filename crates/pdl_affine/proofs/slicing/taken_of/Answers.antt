@@ -2,7 +2,7 @@ use Rattle.std.proofs.Common.{◌<◌, ap, sym, refl, ◌+◌, ◌∙◌, subst,
 use Rattle.pdl_slices.specs.declared.SliceArg.TheVariants.{Whole}
 use Rattle.pdl_affine.specs.Slicing.{line_cons, lines_of}
 use Rattle.pdl_affine.specs.Courses.{lines_of_taken, lines_before, AreSmall}
-use Rattle.pdl_affine.proofs.SliceLines.{size_small, after_small, arg_next, arg_taken}
+use Rattle.pdl_affine.proofs.SlicingLines.{size_small, after_small, arg_next, arg_taken}
 use Rattle.pdl_affine.proofs.slicing.taken_of.Goals as goal
 
 pub line_of-requires-clause-small : goal.line_of-requires-clause-small

@@ -1,20 +1,20 @@
 -- One block more is found as at the start, and written.
 use Rattle.std.proofs.Common.{◌≡◌, ◌≤◌, ℕ, ℤ, List, ◌++◌, length, length-append, length-drop, take, drop, true, is_ok, Ok, refl, sym, ◌∙◌, ap, arith}
-use Rattle.std.proofs.lemmas.List.{length-take-le}
+use Rattle.std.proofs.lemmas.List.{length-replicate, length-take-le}
 use Rattle.pdl_shape.specs.Shape.{size_of}
 use Rattle.pdl_lemmas.specs.Lists.{take_written}
 use Rattle.pdl_world.specs.World.{World, dims_in, elements, look}
 use Rattle.pdl_engine.specs.State.{is_fresh}
 use Rattle.pdl_assign.specs.Blocks.{block_in, list_of, written_in}
-use Rattle.pdl_assign.proofs.Steps.{Laws, block_is, length_written, lent_again, lent_still, live_stays, steady_still, written_all, written_more}
+use Rattle.pdl_assign.proofs.BlockSteps.{Laws, block_is, length_written, lent_again, lent_still, live_stays, steady_still, written_all, written_more}
 use Rattle.pdl_assign.proofs.blocks.write_blocks.Goals as goal
 
 pub loop-done-init : goal.loop-done-init
 loop-done-init g c = record {
   inside = omega arith;
-  values = refl;
-  left = c.requires.left;
-  right = c.requires.right;
+  values = length-replicate _ _;
+  left = length-replicate _ _;
+  right = length-replicate _ _;
   world = sym (c.part_laws.ensures.nothing c.args.engine.now.world c.args.target c.requires.sound);
   holds = refl;
   next = refl;

@@ -9,9 +9,9 @@ use Rattle.pdl_assign.proofs.blocks.write_blocks.Given as goal
 abbrev pub invariant-loop-done : goal.invariant-loop-done
 invariant-loop-done g l = record {
   inside : l.done ≤ l.count;
-  values : length l.values ≡ length l.initial.values;
-  left : length l.left ≡ length l.initial.values;
-  right : length l.right ≡ length l.initial.values;
+  values : length l.values ≡ g.row.ROOM;
+  left : length l.left ≡ g.row.ROOM;
+  right : length l.right ≡ g.row.ROOM;
   world : l.engine.world ≡ assign_part l.initial.engine.world l.target 0 (take l.done (list_of (written_in l.sign l.initial.engine.world l.target l.source)));
   holds : l.engine.holds ≡ l.initial.engine.holds;
   next : l.engine.next ≡ l.initial.engine.next;

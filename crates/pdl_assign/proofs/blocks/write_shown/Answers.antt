@@ -1,13 +1,13 @@
 -- One block more is written.
 use Rattle.std.proofs.Common.{rules, ◌≡◌, ◌+◌, ◌≤◌, ℕ, ℤ, List, ◌++◌, All, length, length-append, length-drop, take, drop, true, refl, sym, ◌∙◌, ap, subst, arith}
-use Rattle.std.proofs.lemmas.List.{length-take-le}
+use Rattle.std.proofs.lemmas.List.{length-replicate, length-take-le}
 use Rattle.pdl_elem.specs.declared.Ty.{Ty}
 use Rattle.pdl_elem.specs.Types.{InRange}
 use Rattle.pdl_shape.specs.Shape.{size_of}
 use Rattle.pdl_lemmas.specs.Lists.{take_written}
 use Rattle.pdl_world.specs.World.{World, dims_in, look}
 use Rattle.pdl_engine.specs.State.{is_fresh}
-use Rattle.pdl_assign.proofs.Steps.{Laws, dims_stay, lent_again, live_stays, root_stays, steady_still, ty_stays, written_all, written_more}
+use Rattle.pdl_assign.proofs.BlockSteps.{Laws, dims_stay, lent_again, live_stays, root_stays, steady_still, ty_stays, written_all, written_more}
 use Rattle.pdl_assign.proofs.blocks.write_shown.Goals as goal
 
 -- as many are read as the block is long
@@ -19,7 +19,7 @@ strided_many n k vs block into room within is =
 pub loop-shown-init : goal.loop-shown-init
 loop-shown-init g c = record {
   inside = omega arith;
-  block = refl;
+  block = length-replicate _ _;
   world = sym (c.part_laws.ensures.nothing c.args.engine.now.world c.args.target c.requires.sound);
   holds = refl;
   next = refl;
@@ -32,7 +32,7 @@ loop-shown-init g c = record {
 pub strided_read-requires : goal.strided_read-requires
 strided_read-requires g c =
     let n : ℕ = c.min-size.result in
-    let size : length (take n c.loop-shown.block) ≡ n = length-take-le n c.loop-shown.block (omega (arith, c.min-size.ensures)) in
+    let size : length (take n c.loop-shown.block) ≡ n = length-take-le n c.loop-shown.block (omega (arith, c.min-size.ensures, c.loop-shown.invariant.block)) in
     omega (arith, size, c.min-size.ensures, c.loop-shown-test.true, c.elements_of-count.ensures.count, c.strided_dims.ensures.count, ap size_of c.strided_dims.ensures.dims)
 
 pub assign_part-requires-clause-live : goal.assign_part-requires-clause-live
@@ -50,8 +50,8 @@ assign_part-requires-clause-within g c =
     let v : ℕ = c.args.target in
     let n : ℕ = c.min-size.result in
     let seen : look now v ≡ look w v = ap (λ x. look x v) c.loop-shown.invariant.world ∙ c.part_laws.ensures.looks w v v 0 (take c.loop-shown.shown c.args.values.now.elems) in
-    let size : length (take n c.loop-shown.block) ≡ n = length-take-le n c.loop-shown.block (omega (arith, c.min-size.ensures)) in
-    let count : length c.strided_read.new.into ≡ n = strided_many c.min-size.result c.loop-shown.shown c.args.values.now.elems c.loop-shown.block c.strided_read.new.into (omega (arith, c.min-size.ensures)) (omega (arith, c.min-size.ensures, c.loop-shown-test.true, c.elements_of-count.ensures.count, c.strided_dims.ensures.count, ap size_of c.strided_dims.ensures.dims)) c.strided_read.ensures.value in
+    let size : length (take n c.loop-shown.block) ≡ n = length-take-le n c.loop-shown.block (omega (arith, c.min-size.ensures, c.loop-shown.invariant.block)) in
+    let count : length c.strided_read.new.into ≡ n = strided_many c.min-size.result c.loop-shown.shown c.args.values.now.elems c.loop-shown.block c.strided_read.new.into (omega (arith, c.min-size.ensures, c.loop-shown.invariant.block)) (omega (arith, c.min-size.ensures, c.loop-shown-test.true, c.elements_of-count.ensures.count, c.strided_dims.ensures.count, ap size_of c.strided_dims.ensures.dims)) c.strided_read.ensures.value in
     let written : length (take n (c.strided_read.new.into ++ drop n c.loop-shown.block)) ≡ n = ap length (take_written n c.strided_read.new.into (drop n c.loop-shown.block) count) ∙ count in
     omega (arith, written, ap size_of (dims_stay w now v seen), c.requires.count, c.min-size.ensures, c.loop-shown-test.true, c.elements_of-count.ensures.count, c.strided_dims.ensures.count, ap size_of c.strided_dims.ensures.dims)
 
@@ -62,7 +62,7 @@ assign_part-requires-clause-in_range g c =
     let v : ℕ = c.args.target in
     let n : ℕ = c.min-size.result in
     let seen : look now v ≡ look w v = ap (λ x. look x v) c.loop-shown.invariant.world ∙ c.part_laws.ensures.looks w v v 0 (take c.loop-shown.shown c.args.values.now.elems) in
-    let block : take n (c.strided_read.new.into ++ drop n c.loop-shown.block) ≡ c.strided_read.new.into = take_written n c.strided_read.new.into (drop n c.loop-shown.block) (strided_many c.min-size.result c.loop-shown.shown c.args.values.now.elems c.loop-shown.block c.strided_read.new.into (omega (arith, c.min-size.ensures)) (omega (arith, c.min-size.ensures, c.loop-shown-test.true, c.elements_of-count.ensures.count, c.strided_dims.ensures.count, ap size_of c.strided_dims.ensures.dims)) c.strided_read.ensures.value) in
+    let block : take n (c.strided_read.new.into ++ drop n c.loop-shown.block) ≡ c.strided_read.new.into = take_written n c.strided_read.new.into (drop n c.loop-shown.block) (strided_many c.min-size.result c.loop-shown.shown c.args.values.now.elems c.loop-shown.block c.strided_read.new.into (omega (arith, c.min-size.ensures, c.loop-shown.invariant.block)) (omega (arith, c.min-size.ensures, c.loop-shown-test.true, c.elements_of-count.ensures.count, c.strided_dims.ensures.count, ap size_of c.strided_dims.ensures.dims)) c.strided_read.ensures.value) in
     subst (λ (ty : Ty). All (InRange ty) (take n (c.strided_read.new.into ++ drop n c.loop-shown.block))) (c.requires.type_is ∙ sym (ty_stays w now v seen))
     (subst (All (InRange c.args.values.now.ty)) (sym block) c.strided_read.ensures.in_range)
 
@@ -76,7 +76,7 @@ loop-shown-preserved g c =
     let n : ℕ = c.min-size.result in
     let vs : List ℤ = c.args.values.now.elems in
     let into : List ℤ = c.strided_read.new.into in
-    let size : length (take n c.loop-shown.block) ≡ n = length-take-le n c.loop-shown.block (omega (arith, c.min-size.ensures)) in
+    let size : length (take n c.loop-shown.block) ≡ n = length-take-le n c.loop-shown.block (omega (arith, c.min-size.ensures, c.loop-shown.invariant.block)) in
     let found : into ≡ take n (drop k vs) = c.strided_read.ensures.value ∙ ap (λ i. take i (drop k vs)) size in
     let within : k + n ≤ length vs = omega (arith, c.min-size.ensures, c.loop-shown-test.true, c.elements_of-count.ensures.count, c.strided_dims.ensures.count, ap size_of c.strided_dims.ensures.dims) in
     let count : length into ≡ n = ap length found ∙ length-take-le n (drop k vs) (omega (arith, within, length-drop k vs)) in

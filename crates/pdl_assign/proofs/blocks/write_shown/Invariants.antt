@@ -9,7 +9,7 @@ use Rattle.pdl_assign.proofs.blocks.write_shown.Given as goal
 abbrev pub invariant-loop-shown : goal.invariant-loop-shown
 invariant-loop-shown g l = record {
   inside : l.shown ≤ l.count;
-  block : length l.block ≡ length l.initial.block;
+  block : length l.block ≡ g.row.ROOM;
   world : l.engine.world ≡ assign_part l.initial.engine.world l.target 0 (take l.shown l.values.elems);
   holds : l.engine.holds ≡ l.initial.engine.holds;
   next : l.engine.next ≡ l.initial.engine.next;

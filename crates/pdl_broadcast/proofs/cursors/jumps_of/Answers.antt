@@ -1,6 +1,6 @@
 use Rattle.std.proofs.Common.{arith, refl, w32}
 use Rattle.std.proofs.lemmas.Int.{to_z-of_z}
-use Rattle.pdl_broadcast.proofs.Jumping.{fitting, jumped_all, jumped_more, jumped_none}
+use Rattle.pdl_broadcast.proofs.CursorJumps.{fitting, jumped_all, jumped_more, jumped_none}
 use Rattle.pdl_broadcast.proofs.cursors.jumps_of.Goals as goal
 
 pub loop-dimension-init : goal.loop-dimension-init

@@ -1,4 +1,4 @@
-use Rattle.pdl_broadcast.proofs.Jumping.{Jumped}
+use Rattle.pdl_broadcast.proofs.CursorJumps.{Jumped}
 use Rattle.pdl_broadcast.proofs.cursors.jumps_of.Given as goal
 
 abbrev pub invariant-loop-dimension : goal.invariant-loop-dimension

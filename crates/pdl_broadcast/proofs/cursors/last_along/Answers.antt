@@ -2,7 +2,7 @@ use Rattle.std.proofs.Common.{◌≡◌, ◌-◌, pos, get_or, ap, sym, ◌∙�
 use Rattle.std.proofs.lemmas.Int.{to_z_pos, fits_signed_from_abs}
 use Rattle.std.proofs.lemmas.List.{get_or_default, get_or_past}
 use Rattle.std.proofs.Common.{w32}
-use Rattle.pdl_broadcast.proofs.Jumping.{size_small}
+use Rattle.pdl_broadcast.proofs.CursorJumps.{size_small}
 use Rattle.pdl_broadcast.proofs.cursors.last_along.Goals as goal
 use Rattle.pdl_broadcast.proofs.cursors.last_along.Goals.{After-saturating_sub, then-dimension-sizes, else-dimension-sizes}
 

@@ -1,5 +1,5 @@
 use Rattle.std.proofs.Common.{rules}
-use Rattle.pdl_broadcast.proofs.Stepping.{moved_on, rolled_all, rolled_more, seen}
+use Rattle.pdl_broadcast.proofs.CursorSteps.{moved_on, rolled_all, rolled_more, seen}
 use Rattle.pdl_broadcast.proofs.cursors.step.Goals as goal
 
 pub bounds-coordinates-dimension : goal.bounds-coordinates-dimension

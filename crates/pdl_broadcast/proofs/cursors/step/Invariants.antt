@@ -1,4 +1,4 @@
-use Rattle.pdl_broadcast.proofs.Stepping.{Rolled}
+use Rattle.pdl_broadcast.proofs.CursorSteps.{Rolled}
 use Rattle.pdl_broadcast.proofs.cursors.step.Given as goal
 
 abbrev pub invariant-loop-dimension : goal.invariant-loop-dimension

@@ -1,4 +1,4 @@
-use Rattle.pdl_buf.proofs.Wholes.{shown_whole}
+use Rattle.pdl_buf.proofs.TripleWholes.{shown_whole}
 use Rattle.pdl_buf.proofs.lending.strided.Goals as goal
 
 pub returns-clause-whole : goal.returns-clause-whole

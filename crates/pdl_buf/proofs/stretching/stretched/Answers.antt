@@ -6,7 +6,7 @@ use Rattle.pdl_shape.specs.Stretched as meant
 use Rattle.pdl_shape.specs.Triple.{Reaches, Triple}
 use Rattle.pdl_buf.specs.Window.{Window}
 use Rattle.pdl_numbers.specs.Shown.{shown_through}
-use Rattle.pdl_buf.proofs.Stretches.{shown_stretched}
+use Rattle.pdl_buf.proofs.BroadcastStretches.{shown_stretched}
 use Rattle.pdl_buf.proofs.stretching.stretched.Goals as goal
 
 window : Ty → List ℕ → List ℤ → Window

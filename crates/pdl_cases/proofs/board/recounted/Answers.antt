@@ -1,6 +1,6 @@
 use Rattle.std.proofs.Common.{sym, subst, refl, arith}
 use Rattle.pdl_cases.specs.Kept.{AreKept}
-use Rattle.pdl_cases.proofs.Kept.{recounts_more}
+use Rattle.pdl_cases.proofs.KeptLemmas.{recounts_more}
 use Rattle.pdl_cases.proofs.board.recounted.Goals as goal
 use Rattle.pdl_cases.proofs.board.recounted.Goals.{then-holds-gt0+in_ok-put, else-holds-gt0}
 

@@ -3,8 +3,8 @@ use Rattle.pdl_shape.specs.Shape.{size_of}
 use Rattle.pdl_shape.specs.Places.{places_of}
 use Rattle.pdl_shape.specs.Clump.{clump_count}
 use Rattle.pdl_choice.specs.Clump.{clumped_source}
-use Rattle.pdl_choice.proofs.Inside.{count_inside}
-use Rattle.pdl_choice.proofs.Placed.{clump_places}
+use Rattle.pdl_choice.proofs.IndexInside.{count_inside}
+use Rattle.pdl_choice.proofs.ClumpPlaces.{clump_places}
 use Rattle.pdl_choice.proofs.clumps.clump_list.Goals as goal
 
 pub returns-clause-places : goal.returns-clause-places

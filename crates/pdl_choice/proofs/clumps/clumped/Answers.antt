@@ -1,6 +1,6 @@
 use Rattle.std.proofs.Common.{◌∙◌, ap}
 use Rattle.pdl_shape.specs.Limits.{checked_dims}
-use Rattle.pdl_choice.proofs.Limits.{checked_dims-fits, clumped_limits}
+use Rattle.pdl_choice.proofs.ChoiceLimits.{checked_dims-fits, clumped_limits}
 use Rattle.pdl_choice.proofs.clumps.clumped.Goals as goal
 
 pub unreachable-requires : goal.unreachable-requires

@@ -1,6 +1,6 @@
 use Rattle.std.proofs.Common.{arith, ℕ, List, ◌≤◌, take, subst, sym}
 use Rattle.pdl_shape.specs.Shape.{extent, extent_limit}
-use Rattle.pdl_choice.proofs.Limits.{extent-take}
+use Rattle.pdl_choice.proofs.ChoiceLimits.{extent-take}
 use Rattle.pdl_choice.proofs.clumps.clumped_sizes.Goals as goal
 
 pub count_of-product-requires : goal.count_of-product-requires

@@ -6,10 +6,10 @@ use Rattle.pdl_shape.specs.Shape.{IsWithin, coordinates_of, extent_limit, positi
 use Rattle.pdl_shape.specs.Counting.{from_end}
 use Rattle.pdl_choice.specs.Index.{index_source}
 use Rattle.pdl_choice.specs.Rounds.{line_at, row_place}
-use Rattle.pdl_choice.proofs.Inside.{index_inside}
-use Rattle.pdl_choice.proofs.Listed.{rounds_grow, rounds_none}
-use Rattle.pdl_choice.proofs.Rowed.{at_row, first_size, line_inside, moved_row, row_below, row_places, row_within, rows_all, rows_fit, same_line}
-use Rattle.pdl_choice.proofs.Windowed.{zeros}
+use Rattle.pdl_choice.proofs.IndexInside.{index_inside}
+use Rattle.pdl_choice.proofs.WhereLists.{rounds_grow, rounds_none}
+use Rattle.pdl_choice.proofs.RoundsRows.{at_row, first_size, line_inside, moved_row, row_below, row_places, row_within, rows_all, rows_fit, same_line}
+use Rattle.pdl_choice.proofs.RoundsWindows.{zeros}
 use Rattle.pdl_choice.proofs.indices.index_places.Goals as goal
 
 pub loop-round-init : goal.loop-round-init

@@ -1,5 +1,5 @@
 use Rattle.std.proofs.Common.{arith}
-use Rattle.pdl_choice.proofs.Bounds.{rest_of, times_below}
+use Rattle.pdl_choice.proofs.ShapeBounds.{rest_of, times_below}
 use Rattle.pdl_choice.proofs.indices.line_of.Goals as goal
 
 pub used_position-requires-clause-bounded : goal.used_position-requires-clause-bounded

@@ -1,7 +1,7 @@
 use Rattle.std.proofs.Common.{◌∙◌, ap, sym, Err, Some, Option, ℕ}
 use Rattle.pdl_shape.specs.Refusals.{refusal_of}
 use Rattle.pdl_choice.specs.Choice.{refusal_past}
-use Rattle.pdl_choice.proofs.Joins.{index_dims-large, refused_so}
+use Rattle.pdl_choice.proofs.IndexDims.{index_dims-large, refused_so}
 use Rattle.pdl_choice.proofs.indices.looked_up.Goals as goal
 
 pub returns-in-Err-TooLarge-clause-dims : goal.returns-in-Err-TooLarge-clause-dims

@@ -1,4 +1,4 @@
-use Rattle.pdl_choice.proofs.Sources.{index_sources_lie, range_sources_lie, where_sources_lie}
+use Rattle.pdl_choice.proofs.RangeSources.{index_sources_lie, range_sources_lie, where_sources_lie}
 use Rattle.pdl_choice.proofs.laws.choice_laws.Goals as goal
 
 pub returns-clause-index : goal.returns-clause-index

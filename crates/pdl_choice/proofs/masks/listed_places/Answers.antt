@@ -2,8 +2,8 @@ use Rattle.std.proofs.Common.{rules, ◌≡◌, ◌<◌, ◌∙◌, List, ℕ, s
 use Rattle.pdl_shape.specs.Places.{places_of}
 use Rattle.pdl_shape.specs.Shape.{size_of}
 use Rattle.pdl_choice.specs.Where.{where_source}
-use Rattle.pdl_choice.proofs.Placed.{listed_places}
-use Rattle.pdl_choice.proofs.Rising.{rising_few, rising_below, rising_inside}
+use Rattle.pdl_choice.proofs.ClumpPlaces.{listed_places}
+use Rattle.pdl_choice.proofs.WhereRising.{rising_few, rising_below, rising_inside}
 use Rattle.pdl_choice.proofs.masks.listed_places.Goals as goal
 
 pub returns-clause-places : goal.returns-clause-places

@@ -1,5 +1,5 @@
 use Rattle.std.proofs.Common.{◌≡◌}
-use Rattle.pdl_choice.proofs.Listed.{which_below}
+use Rattle.pdl_choice.proofs.WhereLists.{which_below}
 use Rattle.pdl_choice.proofs.masks.set_positions.Given as goal
 
 abbrev pub invariant-loop-place : goal.invariant-loop-place

@@ -1,6 +1,6 @@
 use Rattle.std.proofs.Common.{◌<◌, ◌≤◌, length, All, IsTrue, ℕ, List, refl, sym, ◌∙◌, subst, arith}
 use Rattle.pdl_choice.specs.Where.{rises, which}
-use Rattle.pdl_choice.proofs.Rising.{which_rises, rising_few, rising_all}
+use Rattle.pdl_choice.proofs.WhereRising.{which_rises, rising_few, rising_all}
 use Rattle.pdl_choice.proofs.masks.which_places.Goals as goal
 
 pub returns-clause-rises : goal.returns-clause-rises

@@ -1,6 +1,6 @@
 use Rattle.std.proofs.Common.{unsigned_abs, ◌≡◌, ◌<◌, of_z, to_z, w64, pos, ◌+ℤ◌, arith}
 use Rattle.std.proofs.lemmas.Int.{ints}
-use Rattle.pdl_choice.proofs.Edged.{inside_edge}
+use Rattle.pdl_choice.proofs.EdgeLemmas.{inside_edge}
 use Rattle.pdl_choice.proofs.reach.coordinate.Goals as goal
 
 pub returns-then-number-from-clause-value : goal.returns-then-number-from-clause-value

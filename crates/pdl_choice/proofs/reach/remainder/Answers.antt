@@ -1,7 +1,7 @@
 use Rattle.std.proofs.Common.{rules, unsigned_abs, ◌≡◌, ◌∙◌, SFits, w64, of_z, to_z, to_z-of_z, pos, ◌+ℤ◌, ap, arith}
 use Rattle.std.specs.Int.{int_rem_euclid}
 use Rattle.std.proofs.lemmas.Int.{ints}
-use Rattle.pdl_choice.proofs.Edged.{reduced_first}
+use Rattle.pdl_choice.proofs.EdgeLemmas.{reduced_first}
 use Rattle.pdl_choice.proofs.reach.remainder.Goals as goal
 
 pub returns-in-None-clause-value : goal.returns-in-None-clause-value

@@ -1,5 +1,5 @@
 use Rattle.std.proofs.Common.{rules}
-use Rattle.pdl_choice.proofs.MovingOn.{shown, carried_none, carried_more, moved_on, all_carried}
+use Rattle.pdl_choice.proofs.ShapeSteps.{shown, carried_none, carried_more, moved_on, all_carried}
 use Rattle.pdl_choice.proofs.rounds.move_on.Goals as goal
 
 pub loop-dimension-init : goal.loop-dimension-init

@@ -1,5 +1,5 @@
 use Rattle.pdl_shape.specs.Shape.{position_of}
-use Rattle.pdl_choice.proofs.MovingOn.{Carried}
+use Rattle.pdl_choice.proofs.ShapeSteps.{Carried}
 use Rattle.pdl_choice.proofs.rounds.move_on.Given as goal
 
 abbrev pub invariant-loop-dimension : goal.invariant-loop-dimension

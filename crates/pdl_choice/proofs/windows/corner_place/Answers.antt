@@ -1,6 +1,6 @@
 use Rattle.std.proofs.Common.{rules, arith, SFits, w64, ◌+◌, get_or, pos, to_z-of_z}
 use Rattle.pdl_lemmas.specs.Numbers.{row_place_below}
-use Rattle.pdl_choice.proofs.Striding.{placing_more, placing_ended, stride_more, stride_fits}
+use Rattle.pdl_choice.proofs.RoundsStrides.{placing_more, placing_ended, stride_more, stride_fits}
 use Rattle.pdl_choice.proofs.windows.corner_place.Goals as goal
 
 pub overflow_mul-place : goal.overflow_mul-place

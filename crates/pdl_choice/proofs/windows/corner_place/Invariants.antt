@@ -1,4 +1,4 @@
-use Rattle.pdl_choice.proofs.Striding.{Placing}
+use Rattle.pdl_choice.proofs.RoundsStrides.{Placing}
 use Rattle.pdl_choice.proofs.windows.corner_place.Given as goal
 
 abbrev pub invariant-loop-number : goal.invariant-loop-number

@@ -1,7 +1,7 @@
 use Rattle.std.proofs.Common.{◌≡◌, ◌∙◌, ◌+◌, ◌%◌, rules, SFits, w64, ap, get_or, pos, to_z-of_z, sym, length, arith, below_more}
 use Rattle.pdl_choice.specs.Edges.{edge_refuses}
-use Rattle.pdl_choice.proofs.Listed.{position-range, position-range_none}
-use Rattle.pdl_choice.proofs.MovingOn.{next_remainder}
+use Rattle.pdl_choice.proofs.WhereLists.{position-range, position-range_none}
+use Rattle.pdl_choice.proofs.ShapeSteps.{next_remainder}
 use Rattle.pdl_choice.proofs.windows.first_beyond.Goals as goal
 
 pub returns-then-refuses-clause-first : goal.returns-then-refuses-clause-first

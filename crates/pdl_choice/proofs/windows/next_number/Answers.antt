@@ -1,6 +1,6 @@
 use Rattle.std.proofs.Common.{sym}
 use Rattle.std.proofs.Math.Nat.{mod-eq_of_lt}
-use Rattle.pdl_choice.proofs.MovingOn.{last_remainder}
+use Rattle.pdl_choice.proofs.ShapeSteps.{last_remainder}
 use Rattle.pdl_choice.proofs.windows.next_number.Goals as goal
 
 pub returns-then-number-count : goal.returns-then-number-count

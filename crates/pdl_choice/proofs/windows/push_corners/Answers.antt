@@ -1,10 +1,10 @@
 use Rattle.std.proofs.Common.{◌≡◌, ◌-◌, arith, ◌<◌, ◌∙◌, ℕ, List, ℤ, ap, drop, get_or, length, subst, sym}
 use Rattle.pdl_shape.specs.Shape.{size_of}
 use Rattle.pdl_choice.specs.Rounds.{numbers_at, placed}
-use Rattle.pdl_choice.proofs.Bounds.{corner_fits}
-use Rattle.pdl_choice.proofs.Inside.{inside_push}
-use Rattle.pdl_choice.proofs.Listed.{places_added}
-use Rattle.pdl_choice.proofs.Reached.{length-corner}
+use Rattle.pdl_choice.proofs.ShapeBounds.{corner_fits}
+use Rattle.pdl_choice.proofs.IndexInside.{inside_push}
+use Rattle.pdl_choice.proofs.WhereLists.{places_added}
+use Rattle.pdl_choice.proofs.RangePlaces.{length-corner}
 use Rattle.pdl_choice.proofs.windows.push_corners.Goals as goal
 
 pub corner_of-corner-requires : goal.corner_of-corner-requires

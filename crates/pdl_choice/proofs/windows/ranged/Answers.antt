@@ -3,9 +3,9 @@ use Rattle.pdl_shape.specs.Shape.{size_of}
 use Rattle.pdl_shape.specs.Limits.{checked_dims}
 use Rattle.pdl_shape.specs.Places.{places_of}
 use Rattle.pdl_choice.specs.Range.{first_refused, corner_len, inner_dims, windowed_dims, window_sizes, window_refusal, range_source}
-use Rattle.pdl_choice.proofs.Cornered.{window_places_are, corner_size}
-use Rattle.pdl_choice.proofs.Positions.{size_of-append}
-use Rattle.pdl_choice.proofs.Ranged.{range_dims-fit, checked_dims-back, checked_dims-ok, nowhere_said, refused_as_well}
+use Rattle.pdl_choice.proofs.RangeCorners.{window_places_are, corner_size}
+use Rattle.pdl_choice.proofs.ShapePositions.{size_of-append}
+use Rattle.pdl_choice.proofs.RangeDims.{range_dims-fit, checked_dims-back, checked_dims-ok, nowhere_said, refused_as_well}
 use Rattle.pdl_choice.proofs.windows.ranged.Goals as goal
 
 pub overflow_cast-result : goal.overflow_cast-result

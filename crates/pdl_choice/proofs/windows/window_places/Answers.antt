@@ -4,11 +4,11 @@ use Rattle.std.proofs.lemmas.List.{with_items_is}
 use Rattle.pdl_shape.specs.Shape.{size_of}
 use Rattle.pdl_choice.specs.Range.{inner_dims}
 use Rattle.pdl_choice.specs.Rounds.{numbers_at, placed}
-use Rattle.pdl_choice.proofs.Inside.{none_inside}
-use Rattle.pdl_choice.proofs.Listed.{rounds_grow, rounds_none}
-use Rattle.pdl_choice.proofs.MovingOn.{rounds_all, rounds_below}
-use Rattle.pdl_choice.proofs.Reached.{window_position}
-use Rattle.pdl_choice.proofs.Windowed.{all_placed, at_long, at_round, first_round, round_moved, round_places, round_within, rounds_are}
+use Rattle.pdl_choice.proofs.IndexInside.{none_inside}
+use Rattle.pdl_choice.proofs.WhereLists.{rounds_grow, rounds_none}
+use Rattle.pdl_choice.proofs.ShapeSteps.{rounds_all, rounds_below}
+use Rattle.pdl_choice.proofs.RangePlaces.{window_position}
+use Rattle.pdl_choice.proofs.RoundsWindows.{all_placed, at_long, at_round, first_round, round_moved, round_places, round_within, rounds_are}
 use Rattle.pdl_choice.proofs.windows.window_places.Goals as goal
 
 pub loop-round-init : goal.loop-round-init

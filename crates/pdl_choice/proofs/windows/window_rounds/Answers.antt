@@ -1,5 +1,5 @@
 use Rattle.std.proofs.Common.{◌-◌, arith, drop, length}
-use Rattle.pdl_choice.proofs.Limits.{extent-take}
+use Rattle.pdl_choice.proofs.ChoiceLimits.{extent-take}
 use Rattle.pdl_choice.proofs.windows.window_rounds.Goals as goal
 
 pub count_of-rest-requires : goal.count_of-rest-requires

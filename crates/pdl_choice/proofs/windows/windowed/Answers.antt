@@ -2,7 +2,7 @@ use Rattle.std.proofs.Common.{ap, ◌∙◌, length, drop}
 use Rattle.std.specs.List.{filter}
 use Rattle.pdl_shape.specs.Limits.{checked_dims}
 use Rattle.pdl_choice.specs.Range.{is_positive}
-use Rattle.pdl_choice.proofs.Limits.{checked_dims-capped, ok_of, err_of}
+use Rattle.pdl_choice.proofs.ChoiceLimits.{checked_dims-capped, ok_of, err_of}
 use Rattle.pdl_choice.proofs.windows.windowed.Goals as goal
 
 pub returns-clause-dims : goal.returns-clause-dims

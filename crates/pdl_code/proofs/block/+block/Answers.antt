@@ -5,8 +5,8 @@ use Rattle.pdl_code.specs.Tree.{put}
 use Rattle.pdl_code.specs.TreeOf.{KernelStmt, code_of, indices_of, step_of, tree_of}
 use Rattle.pdl_code.specs.Refused.{scope_after}
 use Rattle.pdl_code.specs.Resolving.{Agrees, resolve_code, resolve_step, resolve_tree}
-use Rattle.pdl_code.proofs.Blocks.{and_code, choice_err_first, choice_err_second, choice_ok, code_end, code_fault, code_none, code_turn, fronts, loop_ok, loop_err, pass_on, visible}
-use Rattle.pdl_code.proofs.Rows.{if_tree, loop_tree, same_parts}
+use Rattle.pdl_code.proofs.TreeBlocks.{and_code, choice_err_first, choice_err_second, choice_ok, code_end, code_fault, code_none, code_turn, fronts, loop_ok, loop_err, pass_on, visible}
+use Rattle.pdl_code.proofs.TreeRows.{if_tree, loop_tree, same_parts}
 use Rattle.pdl_code.proofs.block.+block.Goals as goal
 
 pub stmt-returns-in_ok-code-in-Loop-clause-gives : goal.stmt-returns-in_ok-code-in-Loop-clause-gives

@@ -1,7 +1,7 @@
 use Rattle.std.proofs.Common.{◌≡◌, drop}
 use Rattle.pdl_code.specs.TreeOf.{code_of}
 use Rattle.pdl_code.specs.Resolving.{resolve_code}
-use Rattle.pdl_code.proofs.Blocks.{Fronts, and_code, visible}
+use Rattle.pdl_code.proofs.TreeBlocks.{Fronts, and_code, visible}
 use Rattle.pdl_code.proofs.block.+block.Given as goal
 
 -- the code so far, and then the rest from here on, is what all give from the start; what was visible at the start still is

@@ -1,4 +1,4 @@
-use Rattle.pdl_code.proofs.Rows.{tree_of_access}
+use Rattle.pdl_code.proofs.TreeRows.{tree_of_access}
 use Rattle.pdl_code.proofs.build.access_expr.Goals as goal
 
 pub returns : goal.returns

@@ -1,4 +1,4 @@
-use Rattle.pdl_code.proofs.Rows.{step_of_loop}
+use Rattle.pdl_code.proofs.TreeRows.{step_of_loop}
 use Rattle.pdl_code.proofs.build.loop_stmt.Goals as goal
 
 pub returns : goal.returns

@@ -3,7 +3,7 @@ use Rattle.std.proofs.lemmas.Result.{err_from_is_err_and}
 use Rattle.pdl_lemmas.specs.Numbers.{one_less}
 use Rattle.pdl_code.specs.TreeOf.{indices_of, tree_of}
 use Rattle.pdl_code.specs.CodeReading.{before, reader, level_at, limit_of, chain_at, index_at, indices_at}
-use Rattle.pdl_code.proofs.Chains.{begun, chain_fail, chain_last, chain_stop, chain_turn, found_fail, found_next, found_stop, level_above, pass_on}
+use Rattle.pdl_code.proofs.CodeReadingChains.{begun, chain_fail, chain_last, chain_stop, chain_turn, found_fail, found_next, found_stop, level_above, pass_on}
 use Rattle.pdl_code.proofs.expr.+parser.Goals as goal
 
 pub chain-returns-in-None : goal.chain-returns-in-None

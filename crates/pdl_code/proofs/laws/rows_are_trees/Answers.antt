@@ -1,4 +1,4 @@
-use Rattle.pdl_code.proofs.Rows.{step_of_if, step_of_loop, tree_of_access}
+use Rattle.pdl_code.proofs.TreeRows.{step_of_if, step_of_loop, tree_of_access}
 use Rattle.pdl_code.proofs.laws.rows_are_trees.Goals as goal
 
 pub returns : goal.returns

@@ -1,5 +1,5 @@
 use Rattle.std.proofs.Common.{arith}
-use Rattle.pdl_code.proofs.Walking.{at_start, at_end}
+use Rattle.pdl_code.proofs.LexingWalks.{at_start, at_end}
 use Rattle.pdl_code.proofs.lexing.read_lexemes.Goals as goal
 
 pub loop-at-init : goal.loop-at-init

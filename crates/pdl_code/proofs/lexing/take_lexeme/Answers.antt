@@ -1,7 +1,7 @@
 use Rattle.std.proofs.Common.{◌≡◌, ap, sym, ◌∙◌, drop, Some, None}
 use Rattle.std.proofs.lemmas.List.{take_rest}
 use Rattle.pdl_code.specs.Lexing.{behind, lexeme_at}
-use Rattle.pdl_code.proofs.Walking.{blank_at, token_at, none_at, found_more, found_last}
+use Rattle.pdl_code.proofs.LexingWalks.{blank_at, token_at, none_at, found_more, found_last}
 use Rattle.pdl_code.proofs.lexing.take_lexeme.Goals as goal
 
 pub returns-then-is_blank-clause-read : goal.returns-then-is_blank-clause-read

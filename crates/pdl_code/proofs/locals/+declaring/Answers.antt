@@ -5,9 +5,9 @@ use Rattle.pdl_code.specs.Declaring.{declared_step}
 use Rattle.pdl_code.specs.TreeOf.{code_of, tree_of, step_of}
 use Rattle.pdl_code.specs.Resolving.{Agrees}
 use Rattle.pdl_code.specs.Scope.{no_flags}
-use Rattle.pdl_code.proofs.Blocks.{fronts, pass_on, visible}
-use Rattle.pdl_code.proofs.Declared.{branches_err_first, branches_err_second, branches_ok, most_end, most_fault, most_none, most_turn}
-use Rattle.pdl_code.proofs.Rows.{if_tree, loop_tree, same_parts}
+use Rattle.pdl_code.proofs.TreeBlocks.{fronts, pass_on, visible}
+use Rattle.pdl_code.proofs.DeclaringLemmas.{branches_err_first, branches_err_second, branches_ok, most_end, most_fault, most_none, most_turn}
+use Rattle.pdl_code.proofs.TreeRows.{if_tree, loop_tree, same_parts}
 use Rattle.pdl_code.proofs.locals.+declaring.Goals as goal
 
 pub stmt_locals-returns-in-Loop-clause-gives : goal.stmt_locals-returns-in-Loop-clause-gives

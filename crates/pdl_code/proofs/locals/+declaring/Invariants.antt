@@ -2,8 +2,8 @@ use Rattle.std.proofs.Common.{◌≡◌, drop}
 use Rattle.pdl_code.specs.Declaring.{declared_code}
 use Rattle.pdl_code.specs.TreeOf.{code_of}
 use Rattle.pdl_code.specs.Scope.{no_flags}
-use Rattle.pdl_code.proofs.Blocks.{Fronts, visible}
-use Rattle.pdl_code.proofs.Declared.{and_most}
+use Rattle.pdl_code.proofs.TreeBlocks.{Fronts, visible}
+use Rattle.pdl_code.proofs.DeclaringLemmas.{and_most}
 use Rattle.pdl_code.proofs.locals.+declaring.Given as goal
 
 -- the most so far, and then in the rest from here on, is the most of all from the start; what was visible at the start still is

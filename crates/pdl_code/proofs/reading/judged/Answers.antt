@@ -3,8 +3,8 @@ use Rattle.pdl_code.specs.declared.names.KernelCode.{KernelCode}
 use Rattle.pdl_code.specs.Fit.{IsFit, code_locals}
 use Rattle.pdl_code.specs.TreeOf.{KernelStmt, code_of}
 use Rattle.pdl_code.specs.Meaning.{judged}
-use Rattle.pdl_code.proofs.Blocks.{pass_on}
-use Rattle.pdl_code.proofs.Meanings.{count_is, fits, judged_by_names, judged_refused}
+use Rattle.pdl_code.proofs.TreeBlocks.{pass_on}
+use Rattle.pdl_code.proofs.MeaningLemmas.{count_is, fits, judged_by_names, judged_refused}
 use Rattle.pdl_code.proofs.reading.judged.Goals as goal
 
 pub returns-in-Ok-resolved-clause-fit : goal.returns-in-Ok-resolved-clause-fit

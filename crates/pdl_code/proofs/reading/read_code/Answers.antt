@@ -8,8 +8,8 @@ use Rattle.pdl_code.specs.Meaning.{code_in}
 use Rattle.pdl_code.specs.TreeOf.{code_of, RawStmt}
 use Rattle.pdl_code.specs.CodeReading.{read_code}
 use Rattle.pdl_code.specs.Resolving.{or_bad}
-use Rattle.pdl_code.proofs.Blocks.{pass_on}
-use Rattle.pdl_code.proofs.Meanings.{err_of, fault_of, few_tokens, meant_in, not_whole, ok_of, read_as, too_deep, unread}
+use Rattle.pdl_code.proofs.TreeBlocks.{pass_on}
+use Rattle.pdl_code.proofs.MeaningLemmas.{err_of, fault_of, few_tokens, meant_in, not_whole, ok_of, read_as, too_deep, unread}
 use Rattle.pdl_code.proofs.reading.read_code.Goals as goal
 
 abbrev seen : List Lexeme → Bool → Lexed

@@ -6,9 +6,9 @@ use Rattle.pdl_code.specs.Tree.{unary, binary}
 use Rattle.pdl_code.specs.TreeOf.{KernelEntry, RawExpr, index_of, indices_of, tree_of}
 use Rattle.pdl_code.specs.Resolving.{Agrees, resolve_indices, resolve_tree}
 use Rattle.pdl_code.specs.Scope.{Scope, no_flags}
-use Rattle.pdl_code.proofs.Blocks.{pass_on}
-use Rattle.pdl_code.proofs.Rows.{access_tree}
-use Rattle.pdl_code.proofs.Turns.{access_ok, access_err, access_unknown, and_join, binary_err_left, binary_err_right, binary_ok, found_none, entry_next, index_refused, index_tree_refused, index_turn, indices_end, turned_to, unary_err, unary_ok}
+use Rattle.pdl_code.proofs.TreeBlocks.{pass_on}
+use Rattle.pdl_code.proofs.TreeRows.{access_tree}
+use Rattle.pdl_code.proofs.TreeTurns.{access_ok, access_err, access_unknown, and_join, binary_err_left, binary_err_right, binary_ok, found_none, entry_next, index_refused, index_tree_refused, index_turn, indices_end, turned_to, unary_err, unary_ok}
 use Rattle.pdl_code.proofs.resolve.+resolve.Goals as goal
 
 -- a binary expression's tree

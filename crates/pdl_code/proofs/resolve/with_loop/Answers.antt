@@ -1,6 +1,6 @@
 use Rattle.std.proofs.Common.{sym, ap, ◌∙◌, Ok}
 use Rattle.pdl_code.specs.TreeOf.{indices_of}
-use Rattle.pdl_code.proofs.Turns.{marked_loop}
+use Rattle.pdl_code.proofs.TreeTurns.{marked_loop}
 use Rattle.pdl_code.proofs.resolve.with_loop.Goals as goal
 
 pub returns-then-is_marked : goal.returns-then-is_marked

@@ -1,6 +1,6 @@
 use Rattle.std.proofs.Common.{sym, ap, ◌∙◌, Ok, arith}
 use Rattle.pdl_code.specs.TreeOf.{indices_of}
-use Rattle.pdl_code.proofs.Turns.{loops_turn, loops_end, same_ok}
+use Rattle.pdl_code.proofs.TreeTurns.{loops_turn, loops_end, same_ok}
 use Rattle.pdl_code.proofs.resolve.with_loops.Goals as goal
 
 pub loop-k-preserved : goal.loop-k-preserved

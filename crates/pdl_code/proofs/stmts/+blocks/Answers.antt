@@ -3,7 +3,7 @@ use Rattle.std.proofs.lemmas.Result.{err_from_is_err_and}
 use Rattle.pdl_lemmas.specs.Numbers.{one_less}
 use Rattle.pdl_code.specs.TreeOf.{code_of}
 use Rattle.pdl_code.specs.CodeReading.{before_code, code_at, code_reader, statement_at}
-use Rattle.pdl_code.proofs.Chains.{ended_code, found_statement, last_turn, no_statement, pass_on, semicolon_read}
+use Rattle.pdl_code.proofs.CodeReadingChains.{ended_code, found_statement, last_turn, no_statement, pass_on, semicolon_read}
 use Rattle.pdl_code.proofs.stmts.+blocks.Goals as goal
 
 pub statement-returns-in-Some : goal.statement-returns-in-Some

@@ -5,7 +5,7 @@ use Rattle.std.specs.Int.{w64}
 use Rattle.pdl_elem.specs.Blocks.{pairwise}
 use Rattle.pdl_elem.specs.Operators.{value_of}
 use Rattle.pdl_elem.specs.Types.{InRange, binary_result}
-use Rattle.pdl_elem.proofs.Pairs.{pairs_more, pairs_all, pairwise_in_range}
+use Rattle.pdl_elem.proofs.BlockLists.{pairs_more, pairs_all, pairwise_in_range}
 use Rattle.pdl_elem.proofs.blocks.pairs.Goals as goal
 
 pub loop-i-preserved : goal.loop-i-preserved
@@ -19,4 +19,4 @@ returns-clause-value g c = pairs_all _ _ _ _ c.loop-i.i (omega arith) (omega ari
 pub returns-clause-in_range : goal.returns-clause-in_range
 returns-clause-in_range g c =
     let all : c.loop-i.into ≡ pairwise (value_of g.O.KnownOp.op g.T.KnownType.ty) c.args.a.now c.args.b.now = pairs_all _ _ _ _ c.loop-i.i (omega arith) (omega arith) (omega arith) c.loop-i.invariant in
-    subst (All (InRange (binary_result g.O.KnownOp.op g.T.KnownType.ty g.T.KnownType.ty))) (sym all) (pairwise_in_range g.O.KnownOp.op g.T.KnownType.ty c.args.a.now c.args.b.now (omega arith))
+    subst (All (InRange (binary_result g.O.KnownOp.op g.T.KnownType.ty g.T.KnownType.ty))) (sym all) (pairwise_in_range g.O.KnownOp.op g.T.KnownType.ty c.args.a.now c.args.b.now)

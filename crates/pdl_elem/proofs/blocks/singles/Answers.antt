@@ -5,8 +5,8 @@ use Rattle.std.proofs.lemmas.List.Elements.{All-get_or}
 use Rattle.std.specs.Int.{w64}
 use Rattle.pdl_elem.specs.Operators.{unary_value}
 use Rattle.pdl_elem.specs.Types.{InRange, unary_result}
-use Rattle.pdl_elem.proofs.Pairs.{ahead, mapped_more, mapped_all, mapped_in_range}
-use Rattle.pdl_elem.proofs.Ranges.{unary_in_range}
+use Rattle.pdl_elem.proofs.BlockLists.{ahead, mapped_more, mapped_all, mapped_in_range}
+use Rattle.pdl_elem.proofs.OperatorRanges.{unary_in_range}
 use Rattle.pdl_elem.proofs.blocks.singles.Goals as goal
 
 pub unary-requires : goal.unary-requires

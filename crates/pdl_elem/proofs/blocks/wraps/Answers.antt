@@ -4,8 +4,8 @@ use Rattle.std.proofs.lemmas.Int.{to_z-of_z}
 use Rattle.std.specs.Int.{w64}
 use Rattle.pdl_elem.specs.Numbers.{wrapped}
 use Rattle.pdl_elem.specs.Types.{InRange}
-use Rattle.pdl_elem.proofs.Pairs.{mapped_more, mapped_all, mapped_in_range}
-use Rattle.pdl_elem.proofs.Wrapping.{wraps}
+use Rattle.pdl_elem.proofs.BlockLists.{mapped_more, mapped_all, mapped_in_range}
+use Rattle.pdl_elem.proofs.NumbersWrapped.{wraps}
 use Rattle.pdl_elem.proofs.blocks.wraps.Goals as goal
 
 pub loop-x-preserved : goal.loop-x-preserved

@@ -1,4 +1,4 @@
-use Rattle.pdl_elem.proofs.Ranges.{binary_in_range, unary_in_range}
+use Rattle.pdl_elem.proofs.OperatorRanges.{binary_in_range, unary_in_range}
 use Rattle.pdl_elem.proofs.laws.operator_laws.Goals as goal
 
 pub returns : goal.returns

@@ -1,6 +1,6 @@
-use Rattle.pdl_elem.proofs.Ranges.{in_longlong, only_longlong}
-use Rattle.pdl_elem.proofs.Unwrapped.{wrapped_same, zero_in_range}
-use Rattle.pdl_elem.proofs.Wrapping.{wraps, wrapped_int_wrap}
+use Rattle.pdl_elem.proofs.OperatorRanges.{in_longlong, only_longlong}
+use Rattle.pdl_elem.proofs.NumbersUnwrapped.{wrapped_same, zero_in_range}
+use Rattle.pdl_elem.proofs.NumbersWrapped.{wraps, wrapped_int_wrap}
 use Rattle.pdl_elem.proofs.laws.wrapping_laws.Goals as goal
 
 pub returns : goal.returns

@@ -2,7 +2,7 @@
 use Rattle.std.proofs.Common.{ap, sym, ◌∙◌}
 use Rattle.pdl_elem.specs.Operators.{value_of}
 use Rattle.pdl_elem.specs.declared.BinaryOp.TheVariants.{And, Or, Xor}
-use Rattle.pdl_elem.proofs.MachineWords.{told}
+use Rattle.pdl_elem.proofs.OperatorWords.{told}
 use Rattle.pdl_elem.proofs.operators.apply.Goals as goal
 
 pub returns-in-And : goal.returns-in-And

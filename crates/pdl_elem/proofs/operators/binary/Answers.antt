@@ -5,7 +5,7 @@ use Rattle.std.specs.Int.{w64}
 use Rattle.pdl_elem.specs.Types.{InRange, binary_result}
 use Rattle.pdl_elem.specs.Numbers.{wrapped}
 use Rattle.pdl_elem.specs.Operators.{binary_whole}
-use Rattle.pdl_elem.proofs.Ranges.{binary_in_range}
+use Rattle.pdl_elem.proofs.OperatorRanges.{binary_in_range}
 use Rattle.pdl_elem.proofs.operators.binary.Goals as goal
 use Rattle.pdl_elem.proofs.operators.binary.Goals.{in-Div, in_default}
 

@@ -5,7 +5,7 @@ use Rattle.pdl_elem.specs.Numbers.{wrapped}
 use Rattle.pdl_elem.specs.Operators.{unary_value, unary_whole}
 use Rattle.pdl_elem.specs.Types.{InRange, unary_result}
 use Rattle.pdl_elem.specs.declared.UnaryOp.TheVariants.{Complement}
-use Rattle.pdl_elem.proofs.Ranges.{unary_in_range}
+use Rattle.pdl_elem.proofs.OperatorRanges.{unary_in_range}
 use Rattle.pdl_elem.proofs.operators.unary.Goals as goal
 
 pub returns-in-Neg-clause-value : goal.returns-in-Neg-clause-value

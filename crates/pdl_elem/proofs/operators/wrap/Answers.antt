@@ -3,8 +3,8 @@ use Rattle.std.proofs.Common.{◌≡◌, ◌%◌, pos, ap, subst, sym, to_z, of_
 use Rattle.std.proofs.lemmas.Int.{to_z-of_z}
 use Rattle.std.specs.Int.{cast_unsigned, w64, w128}
 use Rattle.pdl_elem.specs.Numbers.{wrapped, WrapsTo}
-use Rattle.pdl_elem.proofs.Wrapping.{wraps, wrapped_wide}
-use Rattle.pdl_elem.proofs.Unwrapped.{wrapped_only}
+use Rattle.pdl_elem.proofs.NumbersWrapped.{wraps, wrapped_wide}
+use Rattle.pdl_elem.proofs.NumbersUnwrapped.{wrapped_only}
 use Rattle.pdl_elem.proofs.operators.wrap.Goals as goal
 
 is_wrapped : (c : goal.After-narrow) → to_z w64 (of_z w64 c.narrow.result) ≡ wrapped c.args.ty c.args.n

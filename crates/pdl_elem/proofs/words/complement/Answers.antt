@@ -1,7 +1,7 @@
 -- A word's bits flipped are, at the type's width, the pattern's flipped.
 use Rattle.std.proofs.Common.{w64, ◌∙◌}
 use Rattle.std.proofs.lemmas.Int.{to_z-of_z}
-use Rattle.pdl_elem.proofs.MachineWords.{wrapped_not}
+use Rattle.pdl_elem.proofs.OperatorWords.{wrapped_not}
 use Rattle.pdl_elem.proofs.words.complement.Goals as goal
 
 pub returns : goal.returns

@@ -1,7 +1,7 @@
 -- The wrapped difference of two words is the difference wrapped.
 use Rattle.std.proofs.Common.{w64, ◌∙◌}
 use Rattle.std.proofs.lemmas.Int.{to_z-of_z}
-use Rattle.pdl_elem.proofs.MachineWords.{wrapped_difference}
+use Rattle.pdl_elem.proofs.OperatorWords.{wrapped_difference}
 use Rattle.pdl_elem.proofs.words.difference.Goals as goal
 
 pub returns : goal.returns

@@ -3,7 +3,7 @@ use Rattle.std.proofs.Common.{ap, neg_ℤ, w64, ◌∙◌}
 use Rattle.std.proofs.lemmas.Int.{to_z-of_z, wrapping_neg_is}
 use Rattle.std.specs.Int.{int_wrapping_neg}
 use Rattle.pdl_elem.specs.Numbers.{wrapped}
-use Rattle.pdl_elem.proofs.Wrapping.{wrapped_int_wrap}
+use Rattle.pdl_elem.proofs.NumbersWrapped.{wrapped_int_wrap}
 use Rattle.pdl_elem.proofs.words.negative.Goals as goal
 
 pub returns : goal.returns

@@ -1,8 +1,8 @@
 -- The rest is a number of the type, so to wrap it changes nothing.
 use Rattle.std.proofs.Common.{◌∙◌, sym}
 use Rattle.pdl_elem.specs.Operators.{modulo}
-use Rattle.pdl_elem.proofs.MachineWords.{told}
-use Rattle.pdl_elem.proofs.Unwrapped.{wrapped_same, modulo_in_range}
+use Rattle.pdl_elem.proofs.OperatorWords.{told}
+use Rattle.pdl_elem.proofs.NumbersUnwrapped.{wrapped_same, modulo_in_range}
 use Rattle.pdl_elem.proofs.words.remainder.Goals as goal
 
 pub returns : goal.returns

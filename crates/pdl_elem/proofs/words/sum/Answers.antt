@@ -1,7 +1,7 @@
 -- The wrapped sum of two words is the sum wrapped.
 use Rattle.std.proofs.Common.{w64, ◌∙◌}
 use Rattle.std.proofs.lemmas.Int.{to_z-of_z}
-use Rattle.pdl_elem.proofs.MachineWords.{wrapped_sum}
+use Rattle.pdl_elem.proofs.OperatorWords.{wrapped_sum}
 use Rattle.pdl_elem.proofs.words.sum.Goals as goal
 
 pub returns : goal.returns

@@ -3,7 +3,7 @@ use Rattle.std.proofs.Common.{pos, ap, w64, ◌∙◌}
 use Rattle.std.proofs.lemmas.Int.{to_z-of_z}
 use Rattle.std.specs.Int.{cast_unsigned}
 use Rattle.pdl_elem.specs.Numbers.{wrapped}
-use Rattle.pdl_elem.proofs.Wrapping.{wrapped_unsigned}
+use Rattle.pdl_elem.proofs.NumbersWrapped.{wrapped_unsigned}
 use Rattle.pdl_elem.proofs.words.wrap_word.Goals as goal
 
 pub returns-in_default : goal.returns-in_default

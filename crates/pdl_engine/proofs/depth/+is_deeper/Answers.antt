@@ -1,6 +1,6 @@
 use Rattle.std.proofs.Common.{sym, ◌∙◌, ap, arith}
 use Rattle.pdl_nodes.specs.Row.{parent_of}
-use Rattle.pdl_engine.proofs.Deeper.{deeper_first, deeper_last, deeper_next}
+use Rattle.pdl_engine.proofs.PathDepths.{deeper_first, deeper_last, deeper_next}
 use Rattle.pdl_engine.proofs.depth.+is_deeper.Goals as goal
 
 pub returns-then-count-eq0 : goal.returns-then-count-eq0

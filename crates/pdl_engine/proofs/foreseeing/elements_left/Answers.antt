@@ -3,7 +3,7 @@ use Rattle.std.specs.Prelude.{IfOk}
 use Rattle.pdl_nodes.specs.Placed.{placed_by}
 use Rattle.pdl_engine.specs.Foresights.{elements_after}
 use Rattle.pdl_engine.specs.declared.by_place.Written.{Written}
-use Rattle.pdl_engine.proofs.Images.{image_shows}
+use Rattle.pdl_engine.proofs.ForesightImages.{image_shows}
 use Rattle.pdl_engine.proofs.foreseeing.elements_left.Goals as goal
 
 pub returns-in-Image : goal.returns-in-Image

@@ -7,7 +7,7 @@ use Rattle.pdl_buf.specs.Window.{Window}
 use Rattle.pdl_numbers.specs.Shown.{shown_through}
 use Rattle.pdl_nodes.specs.Row.{Row}
 use Rattle.pdl_nodes.specs.Rows.{row_at}
-use Rattle.pdl_engine.proofs.Lending.{lent_reaches, lent_elements}
+use Rattle.pdl_engine.proofs.RowsLent.{lent_reaches, lent_elements}
 use Rattle.pdl_engine.proofs.foreseeing.elements_now.Goals as goal
 
 pub base_of-base-requires-clause-live : goal.base_of-base-requires-clause-live

@@ -6,9 +6,9 @@ use Rattle.pdl_nodes.specs.Row.{Row}
 use Rattle.pdl_nodes.specs.Rows.{row_at}
 use Rattle.pdl_nodes.specs.Worlds.{IsRoot}
 use Rattle.pdl_engine.specs.Foresights.{elements_after}
-use Rattle.pdl_engine.proofs.Foresights.{after_long, foreseen_is, places_now}
-use Rattle.pdl_engine.proofs.Images.{root_places}
-use Rattle.pdl_engine.proofs.Places.{count_places}
+use Rattle.pdl_engine.proofs.ForesightLemmas.{after_long, foreseen_is, places_now}
+use Rattle.pdl_engine.proofs.ForesightImages.{root_places}
+use Rattle.pdl_engine.proofs.PlacedByTriples.{count_places}
 use Rattle.pdl_engine.proofs.foreseeing.foresee.Goals as goal
 
 pub base_of-base-requires-clause-live : goal.base_of-base-requires-clause-live

@@ -7,8 +7,8 @@ use Rattle.pdl_nodes.specs.Row.{Row}
 use Rattle.pdl_nodes.specs.Rows.{row_at}
 use Rattle.pdl_nodes.specs.Worlds.{IsRoot, places_seen, world_of}
 use Rattle.pdl_engine.specs.declared.by_place.Written.TheVariants.{Image}
-use Rattle.pdl_engine.proofs.Foresights.{foretold, places_now, root_small}
-use Rattle.pdl_engine.proofs.Images.{image_tells, root_places}
+use Rattle.pdl_engine.proofs.ForesightLemmas.{foretold, places_now, root_small}
+use Rattle.pdl_engine.proofs.ForesightImages.{image_tells, root_places}
 use Rattle.pdl_engine.proofs.foreseeing.foretell.Goals as goal
 
 pub base_of-base-requires-clause-live : goal.base_of-base-requires-clause-live

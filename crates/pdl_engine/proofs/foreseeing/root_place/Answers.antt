@@ -1,6 +1,6 @@
 use Rattle.std.proofs.Common.{sym, ◌∙◌, ap}
 use Rattle.pdl_nodes.specs.Placed.{placed}
-use Rattle.pdl_engine.proofs.Places.{place_is}
+use Rattle.pdl_engine.proofs.PlacedByTriples.{place_is}
 use Rattle.pdl_engine.proofs.foreseeing.root_place.Goals as goal
 
 pub returns : goal.returns

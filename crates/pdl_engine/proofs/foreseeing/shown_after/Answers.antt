@@ -7,8 +7,8 @@ use Rattle.pdl_shape.specs.Shape.{size_of}
 use Rattle.pdl_shape.specs.Triple.{Triple}
 use Rattle.pdl_nodes.specs.Placed.{placed_by}
 use Rattle.pdl_engine.specs.Foresights.{element_after, elements_after}
-use Rattle.pdl_engine.proofs.Foresights.{after_more}
-use Rattle.pdl_engine.proofs.Places.{count_places, found_more, nothing_left}
+use Rattle.pdl_engine.proofs.ForesightLemmas.{after_more}
+use Rattle.pdl_engine.proofs.PlacedByTriples.{count_places, found_more, nothing_left}
 use Rattle.pdl_engine.proofs.foreseeing.shown_after.Goals as goal
 
 pub reading-preserved : goal.reading-preserved

@@ -5,8 +5,8 @@ use Rattle.pdl_world.specs.World.{elements, root_elements}
 use Rattle.pdl_nodes.specs.Row.{Row}
 use Rattle.pdl_nodes.specs.Rows.{row_at}
 use Rattle.pdl_nodes.specs.Worlds.{world_of}
-use Rattle.pdl_engine.proofs.Foresights.{root_shown, root_small, tells_nothing}
-use Rattle.pdl_engine.proofs.Images.{image_unwritten}
+use Rattle.pdl_engine.proofs.ForesightLemmas.{root_shown, root_small, tells_nothing}
+use Rattle.pdl_engine.proofs.ForesightImages.{image_unwritten}
 use Rattle.pdl_engine.proofs.foreseeing.unwritten.Goals as goal
 
 pub node-requires : goal.node-requires

@@ -10,8 +10,8 @@ use Rattle.pdl_nodes.specs.Placed.{placed_by}
 use Rattle.pdl_nodes.specs.Rows.{row_at}
 use Rattle.pdl_nodes.specs.Worlds.{world_of}
 use Rattle.pdl_engine.specs.Foresights.{Tells, put_at, written_at}
-use Rattle.pdl_engine.proofs.Foresights.{tells_more}
-use Rattle.pdl_engine.proofs.Places.{count_places}
+use Rattle.pdl_engine.proofs.ForesightLemmas.{tells_more}
+use Rattle.pdl_engine.proofs.PlacedByTriples.{count_places}
 use Rattle.pdl_engine.proofs.foreseeing.written_by.Goals as goal
 
 pub writing-init : goal.writing-init

@@ -1,4 +1,4 @@
-use Rattle.pdl_engine.proofs.Runs.{followed}
+use Rattle.pdl_engine.proofs.RunLemmas.{followed}
 use Rattle.pdl_engine.proofs.laws.followed_scripts.Goals as goal
 
 pub returns : goal.returns

@@ -1,5 +1,5 @@
-use Rattle.pdl_engine.proofs.Unwritten.{left, unwritten}
-use Rattle.pdl_engine.proofs.HoldLaws.{counted, held, one_less, one_more, stay, uncounted}
+use Rattle.pdl_engine.proofs.HoldLawUnwritten.{left, unwritten}
+use Rattle.pdl_engine.proofs.HoldLawLemmas.{counted, held, one_less, one_more, stay, uncounted}
 use Rattle.pdl_engine.proofs.laws.hold_laws.Goals as goal
 
 pub returns-clause-more : goal.returns-clause-more

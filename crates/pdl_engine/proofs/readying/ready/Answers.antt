@@ -1,7 +1,7 @@
 use Rattle.std.proofs.Common.{◌≤◌, ◌∙◌, ap, arith}
 use Rattle.pdl_pull.specs.Outdated.{outdated}
 use Rattle.pdl_nodes.specs.Rows.{row_at}
-use Rattle.pdl_engine.proofs.Readied.{ready_then, less_path}
+use Rattle.pdl_engine.proofs.SeveredReadied.{ready_then, less_path}
 use Rattle.pdl_engine.proofs.readying.ready.Goals as goal
 
 pub refresh-requires-clause-order : goal.refresh-requires-clause-order

@@ -1,7 +1,7 @@
 use Rattle.std.proofs.Common.{◌+◌, ◌∷◌, ◌∙◌, ap}
 use Rattle.pdl_nodes.specs.Holds.{is_held, stands}
 use Rattle.pdl_nodes.specs.Rows.{reached}
-use Rattle.pdl_engine.proofs.Gone.{comes_ready, going_sums}
+use Rattle.pdl_engine.proofs.TakenGone.{comes_ready, going_sums}
 use Rattle.pdl_engine.proofs.releases.let_go.Goals as goal
 
 pub settle_all-requires-clause-from : goal.settle_all-requires-clause-from

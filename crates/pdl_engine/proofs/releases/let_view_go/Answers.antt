@@ -1,8 +1,8 @@
 use Rattle.std.proofs.Common.{◌+◌, [], ◌∷◌, ◌∙◌, ap}
 use Rattle.pdl_nodes.specs.Holds.{is_held, stands}
 use Rattle.pdl_nodes.specs.Rows.{reached}
-use Rattle.pdl_engine.proofs.Alone.{start_live}
-use Rattle.pdl_engine.proofs.Gone.{comes_ready, going_sums}
+use Rattle.pdl_engine.proofs.TakenAlone.{start_live}
+use Rattle.pdl_engine.proofs.TakenGone.{comes_ready, going_sums}
 use Rattle.pdl_engine.proofs.releases.let_view_go.Goals as goal
 
 pub settle_all-requires-clause-live : goal.settle_all-requires-clause-live

@@ -2,7 +2,7 @@ use Rattle.std.proofs.Common.{◌≡◌, cond, None, sym, ◌∙◌, ap, subst, 
 use Rattle.pdl_nodes.specs.Holds.{hold_at, less_one}
 use Rattle.pdl_nodes.specs.Risen.{IsForgotten}
 use Rattle.pdl_nodes.specs.Rows.{Rows, without}
-use Rattle.pdl_engine.proofs.Alone.{done_kept, done_root, done_view, is_forgotten, last_count, still_held}
+use Rattle.pdl_engine.proofs.TakenAlone.{done_kept, done_root, done_view, is_forgotten, last_count, still_held}
 use Rattle.pdl_engine.proofs.releases.release_one.Goals as goal
 
 pub returns-then-has_views-clause-gone : goal.returns-then-has_views-clause-gone

@@ -2,7 +2,7 @@ use Rattle.std.proofs.Common.{◌+◌, ◌∙◌, ap}
 use Rattle.pdl_nodes.specs.Holds.{count, is_held}
 use Rattle.pdl_nodes.specs.Rows.{reached}
 use Rattle.pdl_engine.specs.Taken.{count_after, after_release}
-use Rattle.pdl_engine.proofs.Gone.{beside_taken, let_go_as, starts_live, starts_tight, going_sums, count_taken, taken}
+use Rattle.pdl_engine.proofs.TakenGone.{beside_taken, let_go_as, starts_live, starts_tight, going_sums, count_taken, taken}
 use Rattle.pdl_engine.proofs.releases.release_with.Goals as goal
 
 pub let_go-requires-clause-beside : goal.let_go-requires-clause-beside

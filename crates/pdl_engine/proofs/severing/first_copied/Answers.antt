@@ -10,9 +10,9 @@ use Rattle.pdl_world.specs.World.{elements}
 use Rattle.pdl_nodes.specs.Row.{Row}
 use Rattle.pdl_nodes.specs.Rows.{row_at}
 use Rattle.pdl_nodes.specs.Worlds.{world_of}
-use Rattle.pdl_engine.proofs.Fits.{length_fitted}
-use Rattle.pdl_engine.proofs.Lending.{lent_reaches, lent_elements}
-use Rattle.pdl_engine.proofs.Results.{made_of, fitted_steps}
+use Rattle.pdl_engine.proofs.CutFits.{length_fitted}
+use Rattle.pdl_engine.proofs.RowsLent.{lent_reaches, lent_elements}
+use Rattle.pdl_engine.proofs.TypedResults.{made_of, fitted_steps}
 use Rattle.pdl_engine.proofs.severing.first_copied.Goals as goal
 
 pub node-base-requires : goal.node-base-requires

@@ -3,7 +3,7 @@ use Rattle.pdl_numbers.specs.Typed.{TypedElements}
 use Rattle.pdl_elem.specs.Types.{InRange}
 use Rattle.pdl_elem.specs.declared.Ty.{Ty}
 use Rattle.pdl_shape.specs.Shape.{size_of}
-use Rattle.pdl_engine.proofs.Packs.{fitted_parts}
+use Rattle.pdl_engine.proofs.CutPacks.{fitted_parts}
 use Rattle.pdl_engine.proofs.severing.first_shown.Goals as goal
 
 pub returns-clause-items : goal.returns-clause-items

@@ -1,6 +1,6 @@
 use Rattle.std.proofs.Common.{◌≡◌, ◌∙◌, ℕ, length, take, drop, ap, arith}
 use Rattle.std.proofs.lemmas.List.{length-append, length-drop, length-take-le}
-use Rattle.pdl_engine.proofs.Packs.{packed_more}
+use Rattle.pdl_engine.proofs.CutPacks.{packed_more}
 use Rattle.pdl_engine.proofs.severing.pack_shown.Goals as goal
 
 pub loop-done-preserved : goal.loop-done-preserved

@@ -1,6 +1,6 @@
 use Rattle.std.proofs.Common.{◌∙◌, ℕ, take, min, ap, arith}
 use Rattle.pdl_numbers.specs.Typed.{TypedElements}
-use Rattle.pdl_engine.proofs.Packs.{zeros_more}
+use Rattle.pdl_engine.proofs.CutPacks.{zeros_more}
 use Rattle.pdl_engine.proofs.severing.pack_zeros.Goals as goal
 
 pub loop-done-preserved : goal.loop-done-preserved

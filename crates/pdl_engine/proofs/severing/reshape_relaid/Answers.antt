@@ -10,9 +10,9 @@ use Rattle.pdl_nodes.specs.Outcomes.{waiting_of, waiting_size}
 use Rattle.pdl_nodes.specs.Below.{AreBelow}
 use Rattle.pdl_nodes.specs.Renewed.{CanRenew}
 use Rattle.pdl_nodes.specs.Worlds.{world_of}
-use Rattle.pdl_engine.proofs.Readied.{ready_then, IsFreshly, others_on, settled_on, only_ready, freshly, ready_steps, ready_fresh}
-use Rattle.pdl_engine.proofs.Renews.{RenewFacts, can_reshape, was_renewed, reshaped_world, renewed_bases, renewed_fresh, renewed_settled, reshape_steps}
-use Rattle.pdl_engine.proofs.Tight.{listed_alike}
+use Rattle.pdl_engine.proofs.SeveredReadied.{ready_then, IsFreshly, others_on, settled_on, only_ready, freshly, ready_steps, ready_fresh}
+use Rattle.pdl_engine.proofs.SeveredRenews.{RenewFacts, can_reshape, was_renewed, reshaped_world, renewed_bases, renewed_fresh, renewed_settled, reshape_steps}
+use Rattle.pdl_engine.proofs.LooseTight.{listed_alike}
 use Rattle.pdl_engine.proofs.severing.reshape_relaid.Goals as goal
 
 pub returns-in_err-refresh-clause-reshaped : goal.returns-in_err-refresh-clause-reshaped

@@ -11,9 +11,9 @@ use Rattle.pdl_pull.specs.Outdated.{outdated}
 use Rattle.pdl_nodes.specs.Row.{Row}
 use Rattle.pdl_nodes.specs.Worlds.{world_of}
 use Rattle.pdl_engine.specs.Loose.{listed_with}
-use Rattle.pdl_engine.proofs.Readied.{ready_then, IsFreshly, others_on, settled_on, only_ready, freshly, ready_steps, ready_fresh}
-use Rattle.pdl_engine.proofs.Renews.{RenewFacts, first_all, root_uncut, renewed_bases, renewed_settled, all_steps, renewed_fresh, can_cut, was_renewed, cut_world}
-use Rattle.pdl_engine.proofs.Tight.{listed_alike, none_listed}
+use Rattle.pdl_engine.proofs.SeveredReadied.{ready_then, IsFreshly, others_on, settled_on, only_ready, freshly, ready_steps, ready_fresh}
+use Rattle.pdl_engine.proofs.SeveredRenews.{RenewFacts, first_all, root_uncut, renewed_bases, renewed_settled, all_steps, renewed_fresh, can_cut, was_renewed, cut_world}
+use Rattle.pdl_engine.proofs.LooseTight.{listed_alike, none_listed}
 use Rattle.pdl_engine.proofs.severing.sever.Goals as goal
 
 pub returns-then-root-id-clause-ok : goal.returns-then-root-id-clause-ok

@@ -1,7 +1,7 @@
 -- One dimension more, or one of a size of 0 or 1.
 use Rattle.std.proofs.Common.{rules, ◌≡◌, ◌+◌, ◌-◌, ◌*◌, ◌∙◌, ap₂, arith}
 use Rattle.std.specs.Prelude.{unsigned_abs}
-use Rattle.pdl_engine.proofs.Apart.{past_first, on_first}
+use Rattle.pdl_engine.proofs.ApartLemmas.{past_first, on_first}
 use Rattle.pdl_engine.proofs.spread.+are_apart.Goals as goal
 
 pub returns-then-size-le1 : goal.returns-then-size-le1

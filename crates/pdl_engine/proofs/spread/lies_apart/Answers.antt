@@ -1,6 +1,6 @@
 use Rattle.std.proofs.Common.{◌∙◌, ap, subst}
 use Rattle.pdl_shape.specs.Triple.{Triple, IsTriple}
-use Rattle.pdl_engine.proofs.Apart.{triple_apart}
+use Rattle.pdl_engine.proofs.ApartLemmas.{triple_apart}
 use Rattle.pdl_engine.proofs.spread.lies_apart.Goals as goal
 
 pub returns-clause-apart : goal.returns-clause-apart

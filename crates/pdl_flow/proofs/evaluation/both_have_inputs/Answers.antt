@@ -2,7 +2,7 @@ use Rattle.std.specs.Prelude.{IsSomeAnd}
 use Rattle.pdl_ops.specs.Laws.{IsArray}
 use Rattle.pdl_flow.specs.Formula.{arrays_in, tree_of}
 use Rattle.pdl_flow.specs.Inputs.{input_of}
-use Rattle.pdl_flow.proofs.Meanings.{all_left, all_right}
+use Rattle.pdl_flow.proofs.MeaningLemmas.{all_left, all_right}
 use Rattle.pdl_flow.proofs.evaluation.both_have_inputs.Goals as goal
 
 pub returns-clause-left : goal.returns-clause-left

@@ -1,4 +1,4 @@
-use Rattle.pdl_flow.proofs.Meanings.{arrays, same_forms, same_values, undivided}
+use Rattle.pdl_flow.proofs.MeaningLemmas.{arrays, same_forms, same_values, undivided}
 use Rattle.pdl_flow.proofs.laws.meaning_laws.Goals as goal
 
 pub returns : goal.returns

@@ -3,7 +3,7 @@ use Rattle.std.specs.List.{list_any}
 use Rattle.pdl_choice.specs.Where.{is_set}
 use Rattle.pdl_image.specs.declared.TheConstants.{PART}
 use Rattle.pdl_image.specs.Dump.{as_listed}
-use Rattle.pdl_image.proofs.Parts.{any_found, any_more}
+use Rattle.pdl_image.proofs.DumpParts.{any_found, any_more}
 use Rattle.pdl_image.proofs.given.is_any_given.Goals as goal
 
 pub part_has_given-requires : goal.part_has_given-requires

@@ -1,6 +1,6 @@
 use Rattle.std.proofs.Common.{refl}
-use Rattle.pdl_image.proofs.Adding.{lines_join}
-use Rattle.pdl_image.proofs.Masking.{masks_choose}
+use Rattle.pdl_image.proofs.AddingLemmas.{lines_join}
+use Rattle.pdl_image.proofs.DumpMasks.{masks_choose}
 use Rattle.pdl_image.proofs.StemLemmas.{stems_are_free, fewer_are_taken}
 use Rattle.pdl_image.proofs.laws.dump_laws.Goals as goal
 

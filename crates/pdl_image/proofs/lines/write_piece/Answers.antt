@@ -2,7 +2,7 @@ use Rattle.std.proofs.Common.{ℕ, ◌+◌, ◌-◌, ap, map, ◌∙◌}
 use Rattle.std.proofs.lemmas.Result.{on_ok_weaker}
 use Rattle.pdl_image.specs.Adding.{bytes_to}
 use Rattle.pdl_image.specs.Dump.{as_listed}
-use Rattle.pdl_image.proofs.Filling.{piece_text}
+use Rattle.pdl_image.proofs.DumpFilling.{piece_text}
 use Rattle.pdl_image.proofs.lines.write_piece.Goals as goal
 
 pub returns-clause-line : goal.returns-clause-line

@@ -1,6 +1,6 @@
 use Rattle.std.proofs.Common.{ltb, ltb-true, ltb-false, arith, rules}
 use Rattle.std.proofs.lemmas.List.Sorted.{IsPartitionPoint-from_clause, IsPartitionedBy-ltb}
-use Rattle.pdl_image.proofs.Masking.{dropped_past, taken_below}
+use Rattle.pdl_image.proofs.DumpMasks.{dropped_past, taken_below}
 use Rattle.pdl_image.proofs.masks.count_below.Goals as goal
 
 pub returns : goal.returns

@@ -1,7 +1,7 @@
 use Rattle.std.proofs.Common.{length, ap, sym, ◌∙◌}
 use Rattle.std.proofs.lemmas.List.{take_more}
 use Rattle.pdl_image.specs.Adding.{mask_part}
-use Rattle.pdl_image.proofs.Masking.{part_none, part_step}
+use Rattle.pdl_image.proofs.DumpMasks.{part_none, part_step}
 use Rattle.pdl_image.proofs.masks.mark_each.Goals as goal
 
 pub loop-place-init : goal.loop-place-init

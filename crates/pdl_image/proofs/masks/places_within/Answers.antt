@@ -2,7 +2,7 @@ use Rattle.std.proofs.Common.{ap, subst, sym, ◌∙◌}
 use Rattle.std.specs.List.Sorted.{IsNonDecreasing}
 use Rattle.std.proofs.lemmas.List.Sorted.{IsNonDecreasingBy-drop}
 use Rattle.pdl_image.specs.Stems.{is_in}
-use Rattle.pdl_image.proofs.Masking.{in_earlier, in_later}
+use Rattle.pdl_image.proofs.DumpMasks.{in_earlier, in_later}
 use Rattle.pdl_image.proofs.masks.places_within.Goals as goal
 
 pub count_below-requires-2 : goal.count_below-requires-2

@@ -1,5 +1,5 @@
 use Rattle.std.proofs.Common.{length, ◌∙◌}
-use Rattle.pdl_image.proofs.Masking.{parts_agree}
+use Rattle.pdl_image.proofs.DumpMasks.{parts_agree}
 use Rattle.pdl_image.proofs.masks.read_mask.Goals as goal
 
 pub returns : goal.returns

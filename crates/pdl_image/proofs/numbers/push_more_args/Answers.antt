@@ -1,5 +1,5 @@
 use Rattle.std.proofs.Common.{◌∙◌}
-use Rattle.pdl_image.proofs.Filling.{arg_more}
+use Rattle.pdl_image.proofs.DumpFilling.{arg_more}
 use Rattle.pdl_image.proofs.numbers.push_more_args.Goals as goal
 
 pub loop-arg-preserved : goal.loop-arg-preserved

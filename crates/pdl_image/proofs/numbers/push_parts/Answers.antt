@@ -2,7 +2,7 @@ use Rattle.std.proofs.Common.{◌++◌, ◌*◌, length-take, drop, length, map,
 use Rattle.pdl_image.specs.declared.TheConstants.{PART}
 use Rattle.pdl_image.specs.Dump.{as_listed}
 use Rattle.pdl_image.specs.Lines.{more_text}
-use Rattle.pdl_image.proofs.Parts.{text_more}
+use Rattle.pdl_image.proofs.DumpParts.{text_more}
 use Rattle.pdl_image.proofs.numbers.push_parts.Goals as goal
 
 pub push_part-requires : goal.push_part-requires

@@ -1,7 +1,7 @@
 use Rattle.std.proofs.Common.{Ok, subst, sym}
 use Rattle.pdl_image.specs.Adding.{Adds}
-use Rattle.pdl_image.proofs.Adding.{adds_none}
-use Rattle.pdl_image.proofs.Parts.{no_leasts}
+use Rattle.pdl_image.proofs.AddingLemmas.{adds_none}
+use Rattle.pdl_image.proofs.DumpParts.{no_leasts}
 use Rattle.pdl_image.proofs.pieces.add_any_leasts.Goals as goal
 
 pub returns-then-not-can_be_least : goal.returns-then-not-can_be_least

@@ -1,8 +1,8 @@
 use Rattle.std.proofs.Common.{ℕ, ◌*◌, ◌<◌, drop, length, length-drop, length-take, arith, ap, subst, ◌∙◌}
 use Rattle.pdl_image.specs.declared.TheConstants.{PART}
 use Rattle.pdl_image.specs.Adding.{part_count}
-use Rattle.pdl_image.proofs.Filling.{passed_on}
-use Rattle.pdl_image.proofs.Parts.{leasts_added, leasts_refused}
+use Rattle.pdl_image.proofs.DumpFilling.{passed_on}
+use Rattle.pdl_image.proofs.DumpParts.{leasts_added, leasts_refused}
 use Rattle.pdl_image.proofs.pieces.add_leasts.Goals as goal
 
 pub add_part_leasts-requires-clause-short : goal.add_part_leasts-requires-clause-short

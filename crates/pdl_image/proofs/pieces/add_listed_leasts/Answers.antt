@@ -1,7 +1,7 @@
 use Rattle.std.proofs.Common.{pos, get_or, rules, FitsSigned}
 use Rattle.std.specs.Int.{w64}
 use Rattle.std.proofs.lemmas.Int.{to_z-of_z}
-use Rattle.pdl_image.proofs.Filling.{least_added, least_refused, passed_on}
+use Rattle.pdl_image.proofs.DumpFilling.{least_added, least_refused, passed_on}
 use Rattle.pdl_image.proofs.pieces.add_listed_leasts.Goals as goal
 
 pub returns-in_err-add_if_least : goal.returns-in_err-add_if_least

@@ -1,6 +1,6 @@
 use Rattle.std.proofs.Common.{ℕ, ◌<◌, ◌^◌, length, subst, ap, ◌∙◌}
 use Rattle.pdl_image.specs.Dump.{piece_count}
-use Rattle.pdl_image.proofs.Filling.{piece_added, piece_refused, piece_small, passed_on}
+use Rattle.pdl_image.proofs.DumpFilling.{piece_added, piece_refused, piece_small, passed_on}
 use Rattle.pdl_image.proofs.pieces.add_root.Goals as goal
 
 pub add_piece-requires : goal.add_piece-requires

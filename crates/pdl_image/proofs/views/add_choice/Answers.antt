@@ -1,6 +1,6 @@
 use Rattle.std.proofs.Common.{◌∷◌, []}
 use Rattle.pdl_image.specs.Lines.{chosen, undef_line, view_line}
-use Rattle.pdl_image.proofs.Adding.{adds_then}
+use Rattle.pdl_image.proofs.AddingLemmas.{adds_then}
 use Rattle.pdl_image.proofs.views.add_choice.Goals as goal
 
 pub returns : goal.returns

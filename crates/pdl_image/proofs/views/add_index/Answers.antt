@@ -3,7 +3,7 @@ use Rattle.pdl_elem.specs.declared.Ty.TheVariants.{Longlong}
 use Rattle.pdl_image.specs.Adding.{Adds}
 use Rattle.pdl_image.specs.Dump.{root_lines}
 use Rattle.pdl_image.specs.Lines.{chosen, undef_line, view_line}
-use Rattle.pdl_image.proofs.Adding.{adds_then}
+use Rattle.pdl_image.proofs.AddingLemmas.{adds_then}
 use Rattle.pdl_image.proofs.views.add_index.Goals as goal
 
 pub returns : goal.returns

@@ -4,7 +4,7 @@ use Rattle.pdl_elem.specs.declared.Ty.TheVariants.{Longlong}
 use Rattle.pdl_image.specs.Adding.{Adds}
 use Rattle.pdl_image.specs.Dump.{root_lines}
 use Rattle.pdl_image.specs.Lines.{ranged, undef_line, view_line}
-use Rattle.pdl_image.proofs.Adding.{adds_then}
+use Rattle.pdl_image.proofs.AddingLemmas.{adds_then}
 use Rattle.pdl_image.proofs.views.add_range.Goals as goal
 
 pub returns : goal.returns

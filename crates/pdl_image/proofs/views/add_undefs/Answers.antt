@@ -1,4 +1,4 @@
-use Rattle.pdl_image.proofs.Filling.{passed_on, undef_added, undef_refused}
+use Rattle.pdl_image.proofs.DumpFilling.{passed_on, undef_added, undef_refused}
 use Rattle.pdl_image.proofs.views.add_undefs.Goals as goal
 
 pub returns-in_err-add_undef : goal.returns-in_err-add_undef

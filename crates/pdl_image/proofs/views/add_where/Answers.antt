@@ -4,8 +4,8 @@ use Rattle.pdl_shape.specs.Shape.{size_of}
 use Rattle.pdl_image.specs.Adding.{Adds}
 use Rattle.pdl_image.specs.Dump.{mask_of, root_lines}
 use Rattle.pdl_image.specs.Lines.{chosen, undef_line, view_line}
-use Rattle.pdl_image.proofs.Adding.{adds_then}
-use Rattle.pdl_image.proofs.Masking.{non_decreasing}
+use Rattle.pdl_image.proofs.AddingLemmas.{adds_then}
+use Rattle.pdl_image.proofs.DumpMasks.{non_decreasing}
 use Rattle.pdl_image.proofs.views.add_where.Goals as goal
 
 pub marked-mask-requires-clause-rises : goal.marked-mask-requires-clause-rises

@@ -1,7 +1,7 @@
 use Rattle.std.proofs.Common.{◌∷◌, []}
 use Rattle.pdl_image.specs.Dump.{edge_number}
 use Rattle.pdl_image.specs.Lines.{ranged, undef_line, view_line}
-use Rattle.pdl_image.proofs.Adding.{adds_then}
+use Rattle.pdl_image.proofs.AddingLemmas.{adds_then}
 use Rattle.pdl_image.proofs.views.add_windows.Goals as goal
 
 pub returns : goal.returns

@@ -2,7 +2,7 @@ use Rattle.std.proofs.Common.{Result, ap, refl, subst, sym, ◌∙◌}
 use Rattle.pdl_image.specs.declared.ImageFault.{ImageFault}
 use Rattle.pdl_image.specs.Adding.{Adds, Writes}
 use Rattle.pdl_image.specs.Dump.{root_lines}
-use Rattle.pdl_image.proofs.Adding.{writes_by}
+use Rattle.pdl_image.proofs.AddingLemmas.{writes_by}
 use Rattle.pdl_image.proofs.writer.add_whole_root.Goals as goal
 
 pub returns : goal.returns

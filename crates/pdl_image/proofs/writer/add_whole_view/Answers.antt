@@ -2,8 +2,8 @@ use Rattle.std.proofs.Common.{Result, subst, sym}
 use Rattle.pdl_image.specs.declared.ImageFault.{ImageFault}
 use Rattle.pdl_image.specs.Adding.{Writes}
 use Rattle.pdl_image.specs.Dump.{view_lines}
-use Rattle.pdl_image.proofs.Adding.{writes_by}
-use Rattle.pdl_image.proofs.Filling.{view_some}
+use Rattle.pdl_image.proofs.AddingLemmas.{writes_by}
+use Rattle.pdl_image.proofs.DumpFilling.{view_some}
 use Rattle.pdl_image.proofs.writer.add_whole_view.Goals as goal
 
 pub returns : goal.returns

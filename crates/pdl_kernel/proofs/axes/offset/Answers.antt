@@ -1,5 +1,5 @@
 use Rattle.std.proofs.Common.{arith}
-use Rattle.pdl_kernel.proofs.Finding.{dot_past}
+use Rattle.pdl_kernel.proofs.PlacesFound.{dot_past}
 use Rattle.pdl_kernel.proofs.axes.offset.Goals as goal
 
 pub returns-then-k-coordinates-clause-value : goal.returns-then-k-coordinates-clause-value

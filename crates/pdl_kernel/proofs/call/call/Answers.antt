@@ -10,9 +10,9 @@ use Rattle.pdl_kernel.specs.Collecting.{IsLaid}
 use Rattle.pdl_kernel.specs.Over.{IsCodeOver}
 use Rattle.pdl_kernel.specs.Places.{Window, kind_of, rest_of}
 use Rattle.pdl_kernel.specs.Setup.{IsShapeOf, outputs_in, window_of}
-use Rattle.pdl_kernel.proofs.Calling.{answers_as, collected_long, faults_as, set_up_long}
-use Rattle.pdl_kernel.proofs.Shaping.{code_over, kinds_are, shapes_are}
-use Rattle.pdl_kernel.proofs.Starting.{windows_laid}
+use Rattle.pdl_kernel.proofs.CallLemmas.{answers_as, collected_long, faults_as, set_up_long}
+use Rattle.pdl_kernel.proofs.OverShapes.{code_over, kinds_are, shapes_are}
+use Rattle.pdl_kernel.proofs.SetupStarts.{windows_laid}
 use Rattle.std.proofs.lemmas.Slice.Zip.{AllZip-long}
 use Rattle.pdl_kernel.proofs.call.call.Goals as goal
 

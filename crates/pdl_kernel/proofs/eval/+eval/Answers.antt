@@ -6,8 +6,8 @@ use Rattle.pdl_kernel.specs.Meaning.{and_then, number_of, or_range, value}
 use Rattle.pdl_kernel.specs.Scenes.{kinds_of, store_of}
 use Rattle.pdl_code.specs.Tree.{access, named}
 use Rattle.pdl_code.specs.TreeOf.{KernelEntry, indices_of, tree_of}
-use Rattle.pdl_kernel.proofs.Scenery.{access_is, each_is}
-use Rattle.pdl_kernel.proofs.Walks.{few_entries, given_next, indices_weight, looped_next, near_more, rest_over, tree_weight, walked, walked_fault, walked_more}
+use Rattle.pdl_kernel.proofs.SceneLemmas.{access_is, each_is}
+use Rattle.pdl_kernel.proofs.PlacesWalks.{few_entries, given_next, indices_weight, looped_next, near_more, rest_over, tree_weight, walked, walked_fault, walked_more}
 use Rattle.pdl_kernel.proofs.eval.+eval.Goals as goal
 use Rattle.pdl_kernel.proofs.eval.+eval.Goals.{place-in-Looped, place-in-Given+in-Ok}
 

@@ -3,7 +3,7 @@ use Rattle.std.specs.Prelude.{IfSome}
 use Rattle.pdl_kernel.specs.Over.{AreIndicesOver}
 use Rattle.pdl_kernel.specs.Scenes.{kinds_of, store_of}
 use Rattle.pdl_code.specs.TreeOf.{indices_of, tree_of}
-use Rattle.pdl_kernel.proofs.Walks.{indices_weight, tree_weight, walk}
+use Rattle.pdl_kernel.proofs.PlacesWalks.{indices_weight, tree_weight, walk}
 use Rattle.pdl_kernel.proofs.eval.+eval.Given as goal
 
 -- the indices from here on lead where all lead from the start

@@ -4,7 +4,7 @@ use Rattle.std.proofs.lemmas.List.Elements.{All-drop}
 use Rattle.pdl_shape.specs.Shape.{extent_limit}
 use Rattle.pdl_sig.specs.Resolution.{core_sizes}
 use Rattle.pdl_kernel.specs.Places.{AreInOrder, axes_of}
-use Rattle.pdl_kernel.proofs.Laying.{laid_in_order}
+use Rattle.pdl_kernel.proofs.SetupLaid.{laid_in_order}
 use Rattle.pdl_kernel.proofs.setup.argument.Goals as goal
 
 pub invariant_of-result : goal.invariant_of-result

@@ -10,7 +10,7 @@ use Rattle.pdl_sig.specs.Resolution.{core_sizes, is_given, type_in}
 use Rattle.pdl_kernel.specs.Call.{first_given, with_given}
 use Rattle.pdl_kernel.specs.Setup.{IsShapeOf, window_of, window_with}
 use Rattle.pdl_kernel.specs.Places.{Window}
-use Rattle.pdl_kernel.proofs.Laying.{one_more, window_shaped}
+use Rattle.pdl_kernel.proofs.SetupLaid.{one_more, window_shaped}
 use Rattle.pdl_kernel.proofs.Zips.{zip_get}
 use Rattle.pdl_kernel.proofs.setup.arguments.Goals as goal
 

@@ -6,7 +6,7 @@ use Rattle.pdl_shape.specs.Shape.{extent_limit}
 use Rattle.pdl_sig.specs.Resolution.{size_in}
 use Rattle.pdl_kernel.specs.declared.axes.Axis.{Axis}
 use Rattle.pdl_kernel.specs.Places.{IsSmall, axes_of}
-use Rattle.pdl_kernel.proofs.Laying.{axes_at, one_more, small_at}
+use Rattle.pdl_kernel.proofs.SetupLaid.{axes_at, one_more, small_at}
 use Rattle.pdl_kernel.proofs.setup.axes.Goals as goal
 
 pub loop-k-preserved : goal.loop-k-preserved

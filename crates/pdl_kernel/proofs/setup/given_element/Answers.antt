@@ -2,7 +2,7 @@ use Rattle.std.proofs.Common.{◌≡◌, ap, ◌∙◌, arith, rules}
 use Rattle.pdl_shape.specs.Broadcast.{cut_to}
 use Rattle.pdl_shape.specs.Shape.{position_of}
 use Rattle.pdl_kernel.specs.Places.{dot}
-use Rattle.pdl_kernel.proofs.Finding.{stretch}
+use Rattle.pdl_kernel.proofs.PlacesFound.{stretch}
 use Rattle.pdl_kernel.proofs.setup.given_element.Goals as goal
 
 pub returns : goal.returns

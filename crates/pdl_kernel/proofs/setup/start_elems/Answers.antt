@@ -1,6 +1,6 @@
 use Rattle.std.proofs.Common.{◌∙◌, ap, sym}
 use Rattle.pdl_kernel.specs.Setup.{start_elems}
-use Rattle.pdl_kernel.proofs.Laying.{zeros_are}
+use Rattle.pdl_kernel.proofs.SetupLaid.{zeros_are}
 use Rattle.pdl_kernel.proofs.setup.start_elems.Goals as goal
 
 pub returns-in_ok-zeros-in-None : goal.returns-in_ok-zeros-in-None

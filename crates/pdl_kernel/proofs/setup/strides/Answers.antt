@@ -4,7 +4,7 @@ use Rattle.std.proofs.lemmas.List.{at_drop_more, drop_all}
 use Rattle.std.proofs.lemmas.List.Elements.{All-push}
 use Rattle.pdl_shape.specs.Shape.{extent, extent_limit}
 use Rattle.pdl_kernel.specs.Places.{strides_from}
-use Rattle.pdl_kernel.proofs.Laying.{along_small, one_more, stride_small, strides_long}
+use Rattle.pdl_kernel.proofs.SetupLaid.{along_small, one_more, stride_small, strides_long}
 use Rattle.pdl_kernel.proofs.setup.strides.Goals as goal
 
 pub loop-size-preserved : goal.loop-size-preserved

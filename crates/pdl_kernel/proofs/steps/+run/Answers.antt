@@ -8,8 +8,8 @@ use Rattle.pdl_kernel.specs.Meaning.{Store, branch, run, step}
 use Rattle.pdl_kernel.specs.Scenes.{kinds_of, store_of}
 use Rattle.pdl_code.specs.Tree.{Step, repeat, choose}
 use Rattle.pdl_code.specs.TreeOf.{KernelStmt, code_of, step_of, tree_of}
-use Rattle.pdl_kernel.proofs.Turning.{chosen, branch_whole}
-use Rattle.pdl_kernel.proofs.Weights.{step_weight, code_weight}
+use Rattle.pdl_kernel.proofs.MeaningTurns.{chosen, branch_whole}
+use Rattle.pdl_kernel.proofs.TreeWeights.{step_weight, code_weight}
 use Rattle.pdl_kernel.proofs.steps.+run.Goals as goal
 
 pub step-repeat-requires : goal.step-repeat-requires

@@ -5,7 +5,7 @@ use Rattle.pdl_kernel.specs.Meaning.{run, turns}
 use Rattle.pdl_kernel.specs.Over.{IsCodeOver}
 use Rattle.pdl_kernel.specs.Scenes.{kinds_of, rests_of, store_of}
 use Rattle.pdl_code.specs.TreeOf.{code_of, step_of}
-use Rattle.pdl_kernel.proofs.Weights.{step_weight, code_weight}
+use Rattle.pdl_kernel.proofs.TreeWeights.{step_weight, code_weight}
 use Rattle.pdl_kernel.proofs.steps.+run.Given as goal
 
 -- the turns from here on give what all give from the start

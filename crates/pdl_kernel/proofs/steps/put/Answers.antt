@@ -6,7 +6,7 @@ use Rattle.pdl_kernel.specs.Meaning.{and_then, argument, assigned, changed, indi
 use Rattle.pdl_kernel.specs.Places.{found, Kind, Window, blank, is_written, kind_of, put_in, rest_of}
 use Rattle.pdl_kernel.specs.Scenes.{store_of}
 use Rattle.pdl_code.specs.TreeOf.{indices_of}
-use Rattle.pdl_kernel.proofs.Scenery.{each_is, kind_is, past_range, put_fault, put_over, put_rests, whole_is}
+use Rattle.pdl_kernel.proofs.SceneLemmas.{each_is, kind_is, past_range, put_fault, put_over, put_rests, whole_is}
 use Rattle.pdl_kernel.proofs.steps.put.Goals as goal
 
 pub place-requires-clause-each : goal.place-requires-clause-each

@@ -4,7 +4,7 @@ use Rattle.pdl_code.specs.TreeOf.{code_of}
 use Rattle.pdl_kernel.specs.Over.{IsCodeOver}
 use Rattle.pdl_kernel.specs.Places.{IsWhole, Kind, Rest}
 use Rattle.pdl_kernel.specs.Scenes.{rests_of}
-use Rattle.pdl_kernel.proofs.Placing.{kinds_at}
+use Rattle.pdl_kernel.proofs.PlacesPut.{kinds_at}
 use Rattle.pdl_kernel.proofs.walk.at_place.Goals as goal
 
 pub run-requires-clause-over : goal.run-requires-clause-over

@@ -7,8 +7,8 @@ use Rattle.pdl_kernel.specs.Call.{PlacedFault, stores_from}
 use Rattle.pdl_kernel.specs.Over.{IsCodeOver}
 use Rattle.pdl_kernel.specs.Places.{IsWhole, Kind}
 use Rattle.pdl_kernel.specs.Scenes.{left_in_order, rests_at, rests_of, store_of}
-use Rattle.pdl_kernel.proofs.Gathering.{behind_all, behind_count, behind_fault, behind_more}
-use Rattle.pdl_kernel.proofs.Placing.{collected_all, kinds_at, locals_kept, none_collected, place_left, whole_all}
+use Rattle.pdl_kernel.proofs.CallStores.{behind_all, behind_count, behind_fault, behind_more}
+use Rattle.pdl_kernel.proofs.PlacesPut.{collected_all, kinds_at, locals_kept, none_collected, place_left, whole_all}
 use Rattle.pdl_kernel.proofs.walk.collect.Goals as goal
 use Rattle.pdl_kernel.proofs.walk.collect.Goals.{At-loop-place}
 

@@ -3,7 +3,7 @@ use Rattle.std.proofs.Common.{◌≡◌, ◌≤◌, [], length}
 use Rattle.pdl_shape.specs.Shape.{size_of}
 use Rattle.pdl_code.specs.TreeOf.{code_of}
 use Rattle.pdl_kernel.specs.Scenes.{kinds_of, left_in_order}
-use Rattle.pdl_kernel.proofs.Gathering.{IsBehind}
+use Rattle.pdl_kernel.proofs.CallStores.{IsBehind}
 use Rattle.pdl_kernel.proofs.walk.collect.Given as goal
 
 abbrev pub invariant-loop-place : goal.invariant-loop-place

@@ -1,4 +1,4 @@
-use Rattle.pdl_lex.proofs.Joining.{statements_join, blanks_join, parts_join, digits_stay}
+use Rattle.pdl_lex.proofs.JoiningLemmas.{statements_join, blanks_join, parts_join, digits_stay}
 use Rattle.pdl_lex.proofs.laws.joining_laws.Goals as goal
 
 pub returns-clause-statements : goal.returns-clause-statements

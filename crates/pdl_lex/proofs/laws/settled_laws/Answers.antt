@@ -1,5 +1,5 @@
 use Rattle.std.proofs.Common.{true, false}
-use Rattle.pdl_lex.proofs.Settled.{settled-front}
+use Rattle.pdl_lex.proofs.PiecesSettled.{settled-front}
 use Rattle.pdl_lex.proofs.laws.settled_laws.Goals as goal
 
 pub returns-clause-begin : goal.returns-clause-begin

@@ -1,4 +1,4 @@
-use Rattle.pdl_lex.proofs.Spans.{toks-spans}
+use Rattle.pdl_lex.proofs.TokenSpans.{toks-spans}
 use Rattle.pdl_lex.proofs.laws.tokens_are_spans.Goals as goal
 
 pub returns : goal.returns

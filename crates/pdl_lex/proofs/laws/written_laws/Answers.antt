@@ -1,8 +1,8 @@
 use Rattle.std.specs.Prelude.{Ok}
 use Rattle.pdl_lex.specs.Written.{text_of, placed}
-use Rattle.pdl_lex.proofs.Spans.{toks-meaning}
-use Rattle.pdl_lex.proofs.Apart.{longer, string_kind}
-use Rattle.pdl_lex.proofs.Written.{written_means, all_written}
+use Rattle.pdl_lex.proofs.TokenSpans.{toks-meaning}
+use Rattle.pdl_lex.proofs.TokensApart.{longer, string_kind}
+use Rattle.pdl_lex.proofs.WrittenLemmas.{written_means, all_written}
 use Rattle.pdl_lex.proofs.laws.written_laws.Goals as goal
 
 pub returns-clause-read : goal.returns-clause-read

@@ -1,6 +1,6 @@
 use Rattle.std.proofs.Common.{◌∙◌, arith}
-use Rattle.pdl_lex.proofs.Walking.{at-start, at-end}
-use Rattle.pdl_lex.proofs.Spans.{toks-spans}
+use Rattle.pdl_lex.proofs.TokenWalks.{at-start, at-end}
+use Rattle.pdl_lex.proofs.TokenSpans.{toks-spans}
 use Rattle.pdl_lex.proofs.lexer.read_tokens.Goals as goal
 
 pub loop-at-init : goal.loop-at-init

@@ -1,7 +1,7 @@
 use Rattle.std.proofs.Common.{◌≡◌, ap, sym, ◌∙◌, arith, drop, Some, None, Err}
 use Rattle.std.proofs.lemmas.List.{take_rest}
 use Rattle.pdl_lex.specs.Tokens.{after_tokens, gap_at, token_at}
-use Rattle.pdl_lex.proofs.Walking.{gap-at, token-at, none-at, found-more}
+use Rattle.pdl_lex.proofs.TokenWalks.{gap-at, token-at, none-at, found-more}
 use Rattle.pdl_lex.proofs.lexer.take_token.Goals as goal
 
 pub returns-then-gap-gt0-clause-read : goal.returns-then-gap-gt0-clause-read

@@ -1,5 +1,5 @@
 use Rattle.std.proofs.Common.{◌∙◌}
-use Rattle.pdl_lex.proofs.Longest.{read-longest}
+use Rattle.pdl_lex.proofs.TokensLongest.{read-longest}
 use Rattle.pdl_lex.proofs.lexer.token_at.Goals as goal
 
 pub returns-clause-longest : goal.returns-clause-longest

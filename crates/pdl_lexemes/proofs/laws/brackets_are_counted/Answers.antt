@@ -1,4 +1,4 @@
-use Rattle.pdl_lexemes.proofs.OpenBrackets.{brackets_are_counted}
+use Rattle.pdl_lexemes.proofs.LexingBrackets.{brackets_are_counted}
 use Rattle.pdl_lexemes.proofs.laws.brackets_are_counted.Goals as goal
 
 pub returns : goal.returns

@@ -1,4 +1,4 @@
-use Rattle.pdl_lexemes.proofs.Texts.{lexemes_hold}
+use Rattle.pdl_lexemes.proofs.TextLemmas.{lexemes_hold}
 use Rattle.pdl_lexemes.proofs.laws.lexemes_hold_texts.Goals as goal
 
 pub returns : goal.returns

@@ -1,4 +1,4 @@
-use Rattle.pdl_lexemes.proofs.Ragged.{ragged_sound, ragged_complete, scan_past, scan_list}
+use Rattle.pdl_lexemes.proofs.ListsRagged.{ragged_sound, ragged_complete, scan_past, scan_list}
 use Rattle.pdl_lexemes.proofs.laws.ragged_is_scanned.Goals as goal
 
 pub returns : goal.returns

@@ -1,4 +1,4 @@
-use Rattle.pdl_lexemes.proofs.Texts.{type_words}
+use Rattle.pdl_lexemes.proofs.TextLemmas.{type_words}
 use Rattle.pdl_lexemes.proofs.laws.type_words_are_words.Goals as goal
 
 pub returns : goal.returns

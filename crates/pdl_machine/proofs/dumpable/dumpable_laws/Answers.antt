@@ -1,6 +1,6 @@
-use Rattle.pdl_machine.proofs.Spelled.{effects_keep_spelled}
-use Rattle.pdl_machine.proofs.SpelledViews.{shown_made}
-use Rattle.pdl_machine.proofs.TidiedDumps.{empty_is_dumpable, tidied_are_dumpable, numbers_are_unspelled}
+use Rattle.pdl_machine.proofs.DumpableLawSteps.{effects_keep_spelled}
+use Rattle.pdl_machine.proofs.DumpableViews.{shown_made}
+use Rattle.pdl_machine.proofs.DumpableLawTidied.{empty_is_dumpable, tidied_are_dumpable, numbers_are_unspelled}
 use Rattle.pdl_machine.proofs.dumpable.dumpable_laws.Goals as goal
 
 pub returns-clause-empty : goal.returns-clause-empty

@@ -1,9 +1,9 @@
 use Rattle.pdl_machine.proofs.FlowFollows as following
-use Rattle.pdl_machine.proofs.FlowKeeps as keeping
-use Rattle.pdl_machine.proofs.FlowsAffected.{only_affected_follow}
+use Rattle.pdl_machine.proofs.FlowLawKeeps as keeping
+use Rattle.pdl_machine.proofs.FlowLawAffected.{only_affected_follow}
 use Rattle.pdl_machine.proofs.FlowMoves.{flows_stay}
 use Rattle.pdl_machine.proofs.FlowsTidied.{letting_go_keeps_flows, tidying_keeps_flows}
-use Rattle.pdl_machine.proofs.SpelledViews.{shown_made}
+use Rattle.pdl_machine.proofs.DumpableViews.{shown_made}
 use Rattle.pdl_machine.proofs.laws.flow_laws.Goals as goal
 
 pub returns-clause-stay : goal.returns-clause-stay

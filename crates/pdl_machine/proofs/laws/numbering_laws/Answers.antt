@@ -1,5 +1,5 @@
-use Rattle.pdl_machine.proofs.Steps.{steps_are_alike, new_arrays_are_unseen}
-use Rattle.pdl_machine.proofs.Tidying.{letting_go_is_unseen, settling_is_unseen, sweep_again}
+use Rattle.pdl_machine.proofs.StateSteps.{steps_are_alike, new_arrays_are_unseen}
+use Rattle.pdl_machine.proofs.TidyLemmas.{letting_go_is_unseen, settling_is_unseen, sweep_again}
 use Rattle.pdl_machine.proofs.laws.numbering_laws.Goals as goal
 
 pub returns-clause-alike : goal.returns-clause-alike

@@ -1,6 +1,6 @@
 use Rattle.pdl_machine.proofs.FlowsTidied.{paths_reach}
-use Rattle.pdl_machine.proofs.Needed.{kept_are_needed, needed_flows_stay}
-use Rattle.pdl_machine.proofs.Steps.{steps_leave_reached, tidying_shows_the_same}
+use Rattle.pdl_machine.proofs.StateNeeds.{kept_are_needed, needed_flows_stay}
+use Rattle.pdl_machine.proofs.StateSteps.{steps_leave_reached, tidying_shows_the_same}
 use Rattle.pdl_machine.proofs.laws.reaching_laws.Goals as goal
 
 pub returns-clause-needed : goal.returns-clause-needed

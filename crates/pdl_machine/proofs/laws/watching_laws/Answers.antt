@@ -1,6 +1,6 @@
-use Rattle.pdl_machine.proofs.Quiet.{only_assignments_tell, growing_tells_the_same}
-use Rattle.pdl_machine.proofs.Presence.{steps_give_none, steps_keep_there}
-use Rattle.pdl_machine.proofs.Telling.{either_text_or_notices}
+use Rattle.pdl_machine.proofs.StepQuiet.{only_assignments_tell, growing_tells_the_same}
+use Rattle.pdl_machine.proofs.RunPresence.{steps_give_none, steps_keep_there}
+use Rattle.pdl_machine.proofs.StepNotices.{either_text_or_notices}
 use Rattle.pdl_machine.proofs.WatchLemmas.{attached_trimmed}
 use Rattle.pdl_machine.proofs.laws.watching_laws.Goals as goal
 

@@ -1,4 +1,4 @@
-use Rattle.pdl_machine.proofs.MeaningLemmas.{reads_means, means_one, plain_means_one, plain_texts_stay}
+use Rattle.pdl_machine.proofs.ReadMeanings.{reads_means, means_one, plain_means_one, plain_texts_stay}
 use Rattle.pdl_machine.proofs.reading.reads_law.Goals as goal
 
 pub returns-clause-means : goal.returns-clause-means

@@ -1,8 +1,8 @@
 use Rattle.std.proofs.Common.{refl}
-use Rattle.pdl_machine.proofs.Presence.{told_stays, none_comes, none_comes_in_a_run, stay_there, are_there_in_a_run}
-use Rattle.pdl_machine.proofs.Counted.{each_is_counted, notices_are_numbered}
+use Rattle.pdl_machine.proofs.RunPresence.{told_stays, none_comes, none_comes_in_a_run, stay_there, are_there_in_a_run}
+use Rattle.pdl_machine.proofs.RunLawCounts.{each_is_counted, notices_are_numbered}
 use Rattle.pdl_machine.proofs.RunLemmas.{ended_stays, printed_stays, fault_stays, goes_on, first_fault, ended_by_fault, refused_stay, refused_in_a_run, few_in_a_run, none_in_a_run, refusals_leave_all, too_long_ends, limit_ends}
-use Rattle.pdl_machine.proofs.Rising.{refused_rise}
+use Rattle.pdl_machine.proofs.RunLawRising.{refused_rise}
 use Rattle.pdl_machine.proofs.reading.run_laws.Goals as goal
 
 pub returns-clause-ended : goal.returns-clause-ended

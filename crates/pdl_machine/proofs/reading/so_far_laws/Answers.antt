@@ -1,4 +1,4 @@
-use Rattle.pdl_machine.proofs.SoFar.{so_far-front, so_far-printed, so_far-told, so_far-grows, so_far-all}
+use Rattle.pdl_machine.proofs.RunSoFar.{so_far-front, so_far-printed, so_far-told, so_far-grows, so_far-all}
 use Rattle.pdl_machine.proofs.reading.so_far_laws.Goals as goal
 
 pub returns-clause-goes_on : goal.returns-clause-goes_on

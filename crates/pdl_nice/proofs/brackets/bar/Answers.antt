@@ -1,5 +1,5 @@
 use Rattle.std.proofs.Common.{get_or, sym, ◌∙◌, arith}
-use Rattle.pdl_nice.proofs.Bars.{here, unclosed, past, stopped, next, ended}
+use Rattle.pdl_nice.proofs.EndBars.{here, unclosed, past, stopped, next, ended}
 use Rattle.pdl_nice.proofs.brackets.bar.Goals as goal
 
 pub returns-then-is_bar-clause-at : goal.returns-then-is_bar-clause-at

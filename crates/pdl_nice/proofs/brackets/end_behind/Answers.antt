@@ -1,5 +1,5 @@
 use Rattle.std.proofs.Common.{get_or, sym, ◌∙◌, ap, arith}
-use Rattle.pdl_nice.proofs.Ends.{unclosed_inside, past_inside, closed_here, closed_wrongly, not_here, at_end, same_side, other_side}
+use Rattle.pdl_nice.proofs.EndLemmas.{unclosed_inside, past_inside, closed_here, closed_wrongly, not_here, at_end, same_side, other_side}
 use Rattle.std.specs.Prelude.{Some}
 use Rattle.pdl_nice.proofs.brackets.end_behind.Goals as goal
 

@@ -2,9 +2,9 @@ use Rattle.std.proofs.Common.{suc, length, sym, ◌∙◌, subst}
 use Rattle.pdl_nice.specs.declared.looks.Before.TheVariants.{Other as another}
 use Rattle.pdl_nice.specs.Plain.{Means}
 use Rattle.pdl_lemmas.specs.Options.{some_inj}
-use Rattle.pdl_nice.proofs.Sound.{reader_sound}
-use Rattle.pdl_nice.proofs.Complete.{reader_complete}
-use Rattle.pdl_nice.proofs.Refused.{plain_means, meant}
+use Rattle.pdl_nice.proofs.NiceSound.{reader_sound}
+use Rattle.pdl_nice.proofs.NiceComplete.{reader_complete}
+use Rattle.pdl_nice.proofs.PlainRefused.{plain_means, meant}
 use Rattle.pdl_nice.proofs.laws.plain_meaning.Goals as goal
 
 pub returns-clause-tokens : goal.returns-clause-tokens

@@ -2,7 +2,7 @@ use Rattle.std.proofs.Common.{◌≤◌, length, sym, subst, ◌∙◌, ap}
 use Rattle.std.specs.Prelude.{Ok}
 use Rattle.pdl_lex.specs.Limits.{statement_limit}
 use Rattle.pdl_lex.specs.Written.{written, end_behind}
-use Rattle.pdl_nice.proofs.Refused.{its_own}
+use Rattle.pdl_nice.proofs.PlainRefused.{its_own}
 use Rattle.pdl_nice.proofs.laws.texts_stay.Goals as goal
 
 pub returns : goal.returns

@@ -1,5 +1,5 @@
 use Rattle.std.proofs.Common.{sym, ◌∙◌}
-use Rattle.pdl_nice.proofs.Tokens.{nice_from_second, nice_here, nice_later, nice_nowhere}
+use Rattle.pdl_nice.proofs.LookTokens.{nice_from_second, nice_here, nice_later, nice_nowhere}
 use Rattle.pdl_nice.proofs.looks.looks_nice.Goals as goal
 
 pub loop-at-init : goal.loop-at-init

@@ -1,5 +1,5 @@
 use Rattle.std.proofs.Common.{arith}
-use Rattle.pdl_nice.proofs.Tokens.{other_byte}
+use Rattle.pdl_nice.proofs.LookTokens.{other_byte}
 use Rattle.pdl_nice.proofs.looks.may_open.Goals as goal
 
 pub returns-then-at-text : goal.returns-then-at-text

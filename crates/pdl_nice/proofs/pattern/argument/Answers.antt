@@ -3,7 +3,7 @@ use Rattle.pdl_nice.specs.Reading.{part_of, simple_of, argument_at}
 use Rattle.std.specs.Prelude.{Some, None}
 use Rattle.pdl_nice.specs.Ends.{range}
 use Rattle.pdl_nice.specs.Adding.{AddsBehind, second_at}
-use Rattle.pdl_nice.proofs.Parts.{no_cut, cut_at, no_argument, argument_no_part, argument_parts, argument_simple, spans, LiesBehind, if_ok_both, none_read, some_read}
+use Rattle.pdl_nice.proofs.ReadingParts.{no_cut, cut_at, no_argument, argument_no_part, argument_parts, argument_simple, spans, LiesBehind, if_ok_both, none_read, some_read}
 use Rattle.pdl_nice.proofs.pattern.argument.Goals as goal
 
 pub returns-in_default-clause-read : goal.returns-in_default-clause-read

@@ -1,7 +1,7 @@
 use Rattle.std.proofs.Common.{length, drop, sym, ◌∙◌, arith}
 use Rattle.pdl_nice.specs.Reading.{argument_at}
-use Rattle.pdl_nice.proofs.Parts.{front_read, no_front_read, lies_there}
-use Rattle.pdl_nice.proofs.Rounds.{passed_none, passed_more, passed_last, passed_nothing}
+use Rattle.pdl_nice.proofs.ReadingParts.{front_read, no_front_read, lies_there}
+use Rattle.pdl_nice.proofs.ReadingRounds.{passed_none, passed_more, passed_last, passed_nothing}
 use Rattle.pdl_nice.proofs.pattern.arguments.Goals as goal
 
 pub argument-init : goal.argument-init

@@ -2,7 +2,7 @@ use Rattle.std.proofs.Common.{◌≡◌, ℕ, ◌-◌, ◌≤◌, List, length, 
 use Rattle.pdl_lex.specs.Written.{Written}
 use Rattle.pdl_nice.specs.declared.looks.Look.{Look}
 use Rattle.pdl_nice.specs.Looks.{look}
-use Rattle.pdl_nice.proofs.Rounds.{Passed}
+use Rattle.pdl_nice.proofs.ReadingRounds.{Passed}
 use Rattle.pdl_nice.proofs.pattern.arguments.Given as goal
 
 -- the arguments before a place were read

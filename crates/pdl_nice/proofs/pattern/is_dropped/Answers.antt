@@ -3,7 +3,7 @@ use Rattle.pdl_nice.specs.Ends.{bar_len, further}
 use Rattle.pdl_nice.specs.Nice.{is_open}
 use Rattle.pdl_lemmas.specs.Options.{some_inj, none_some}
 use Rattle.pdl_nice.proofs.Options.{false_true}
-use Rattle.pdl_nice.proofs.Inner.{not_dropped, told}
+use Rattle.pdl_nice.proofs.NiceInner.{not_dropped, told}
 use Rattle.pdl_nice.proofs.pattern.is_dropped.Goals as goal
 
 pub returns-in-None : goal.returns-in-None

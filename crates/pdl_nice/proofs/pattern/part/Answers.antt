@@ -2,8 +2,8 @@ use Rattle.std.proofs.Common.{[], ◌∷◌, sym, ◌∙◌, arith}
 use Rattle.std.specs.Prelude.{codes}
 use Rattle.pdl_nice.specs.Reading.{read}
 use Rattle.pdl_nice.specs.Ends.{range}
-use Rattle.pdl_nice.proofs.Adding.{nothing_added, one_added}
-use Rattle.pdl_nice.proofs.Ranges.{front_is, part_nothing, star_first, value_first}
+use Rattle.pdl_nice.proofs.AddingLemmas.{nothing_added, one_added}
+use Rattle.pdl_nice.proofs.ReadingRanges.{front_is, part_nothing, star_first, value_first}
 use Rattle.pdl_nice.proofs.pattern.part.Goals as goal
 
 pub returns-then-from-to : goal.returns-then-from-to

@@ -2,7 +2,7 @@ use Rattle.std.proofs.Common.{◌+◌, length, drop, sym, ◌∙◌}
 use Rattle.pdl_nice.specs.Reading.{part_of}
 use Rattle.pdl_nice.specs.Ends.{range}
 use Rattle.pdl_nice.specs.Adding.{AddsBehind, third_at, second_at}
-use Rattle.pdl_nice.proofs.Parts.{no_cut, cut_at, no_second, second_no_part, second_part, second_third, spans, LiesBehind, if_ok_both, none_read, some_read}
+use Rattle.pdl_nice.proofs.ReadingParts.{no_cut, cut_at, no_second, second_no_part, second_part, second_third, spans, LiesBehind, if_ok_both, none_read, some_read}
 use Rattle.pdl_nice.proofs.pattern.second.Goals as goal
 
 pub returns-in_default-clause-read : goal.returns-in_default-clause-read

@@ -4,9 +4,9 @@ use Rattle.pdl_nice.specs.Reading.{read, part_of, simple_of}
 use Rattle.pdl_nice.specs.Ends.{range}
 use Rattle.pdl_nice.specs.Adding.{only, AddsOf}
 use Rattle.pdl_nice.proofs.Options.{if_ok_map}
-use Rattle.pdl_nice.proofs.Adding.{nothing_added, one_added}
-use Rattle.pdl_nice.proofs.Ranges.{front_is}
-use Rattle.pdl_nice.proofs.Inner.{simple_nothing, dropped_simple, dropped_lies, value_simple, star_adds, star_behind}
+use Rattle.pdl_nice.proofs.AddingLemmas.{nothing_added, one_added}
+use Rattle.pdl_nice.proofs.ReadingRanges.{front_is}
+use Rattle.pdl_nice.proofs.NiceInner.{simple_nothing, dropped_simple, dropped_lies, value_simple, star_adds, star_behind}
 use Rattle.pdl_nice.proofs.pattern.simple.Goals as goal
 
 pub returns-then-from-to : goal.returns-then-from-to

@@ -2,10 +2,10 @@ use Rattle.std.proofs.Common.{[], ◌∷◌, sym, ◌∙◌, ap, arith}
 use Rattle.std.specs.Prelude.{codes, not}
 use Rattle.pdl_nice.specs.Reading.{read}
 use Rattle.pdl_nice.specs.Ends.{range}
-use Rattle.pdl_nice.proofs.Adding.{one_added}
-use Rattle.pdl_nice.proofs.Ranges.{front_is}
-use Rattle.pdl_nice.proofs.Inner.{range_value}
-use Rattle.pdl_nice.proofs.Parts.{no_cut, cut_at, no_third, third_colon, third_nothing, third_star, third_value}
+use Rattle.pdl_nice.proofs.AddingLemmas.{one_added}
+use Rattle.pdl_nice.proofs.ReadingRanges.{front_is}
+use Rattle.pdl_nice.proofs.NiceInner.{range_value}
+use Rattle.pdl_nice.proofs.ReadingParts.{no_cut, cut_at, no_third, third_colon, third_nothing, third_star, third_value}
 use Rattle.pdl_nice.proofs.pattern.third.Goals as goal
 
 pub returns-in_default-clause-read : goal.returns-in_default-clause-read

@@ -1,5 +1,5 @@
 use Rattle.std.proofs.Common.{◌++◌, ◌∙◌, ap}
-use Rattle.pdl_nice.proofs.Whole.{rest_is}
+use Rattle.pdl_nice.proofs.PlainWhole.{rest_is}
 use Rattle.pdl_nice.proofs.rewriting.write_end.Goals as goal
 
 pub returns : goal.returns

@@ -1,7 +1,7 @@
 use Rattle.std.proofs.Common.{◌≡◌, length, ◌∙◌, arith}
 use Rattle.pdl_lex.specs.Written.{written, end_behind}
-use Rattle.pdl_nice.proofs.Whole.{long_text, text_is}
-use Rattle.pdl_nice.proofs.Steps.{something_written}
+use Rattle.pdl_nice.proofs.PlainWhole.{long_text, text_is}
+use Rattle.pdl_nice.proofs.WritingSteps.{something_written}
 use Rattle.pdl_nice.proofs.rewriting.write_flat.Goals as goal
 
 pub returns-then-len-gt-STATEMENT_LIMIT-clause-refused :

@@ -1,6 +1,6 @@
 use Rattle.std.proofs.Common.{◌∙◌, arith}
-use Rattle.pdl_nice.proofs.Whole.{deep_text, flat_text, ok_as, err_as}
-use Rattle.pdl_nice.proofs.Steps.{as_many_looks}
+use Rattle.pdl_nice.proofs.PlainWhole.{deep_text, flat_text, ok_as, err_as}
+use Rattle.pdl_nice.proofs.WritingSteps.{as_many_looks}
 use Rattle.pdl_nice.proofs.rewriting.write_plain.Goals as goal
 
 pub goes_deep-requires : goal.goes_deep-requires

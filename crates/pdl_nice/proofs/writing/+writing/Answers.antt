@@ -6,10 +6,10 @@ use Rattle.pdl_nice.specs.Reading.{arguments_in}
 use Rattle.pdl_nice.specs.Adding.{shown, AllLieIn}
 use Rattle.pdl_nice.specs.Writing.{onto, Writes, token_there, text_behind, value_text, values_text, AllValues}
 use Rattle.pdl_nice.proofs.Options.{if_ok_map}
-use Rattle.pdl_nice.proofs.Parts.{front_read, no_front_read, lies_there}
-use Rattle.pdl_nice.proofs.Places.{as_many_written}
-use Rattle.pdl_nice.proofs.Steps.{same_looks, as_many_looks, look_there, nothing_written, something_written, value_writes, stays_behind, nice_behind, all_written, no_arguments, no_values, nice_writes, added_places, first_places, places_are_values, fits_value, one_of, value_read, one_more, no_more}
-use Rattle.pdl_nice.proofs.Tail.{onto_nothing, writes_part, some_place, kept_there}
+use Rattle.pdl_nice.proofs.ReadingParts.{front_read, no_front_read, lies_there}
+use Rattle.pdl_nice.proofs.WritingPlaces.{as_many_written}
+use Rattle.pdl_nice.proofs.WritingSteps.{same_looks, as_many_looks, look_there, nothing_written, something_written, value_writes, stays_behind, nice_behind, all_written, no_arguments, no_values, nice_writes, added_places, first_places, places_are_values, fits_value, one_of, value_read, one_more, no_more}
+use Rattle.pdl_nice.proofs.WritingTail.{onto_nothing, writes_part, some_place, kept_there}
 use Rattle.std.proofs.lemmas.List.{append-nil}
 use Rattle.std.proofs.Common.{[], ◌++◌}
 use Rattle.pdl_nice.proofs.writing.+writing.Goals as goal

@@ -1,4 +1,4 @@
-use Rattle.pdl_nice.proofs.Places.{end_behind_there}
+use Rattle.pdl_nice.proofs.WritingPlaces.{end_behind_there}
 use Rattle.pdl_nice.proofs.writing.end_before.Goals as goal
 
 pub returns : goal.returns

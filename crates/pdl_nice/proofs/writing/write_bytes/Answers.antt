@@ -1,5 +1,5 @@
 use Rattle.std.proofs.Common.{◌++◌, sym, ◌∙◌, ap}
-use Rattle.pdl_nice.proofs.Places.{bytes_there}
+use Rattle.pdl_nice.proofs.WritingPlaces.{bytes_there}
 use Rattle.pdl_nice.proofs.writing.write_bytes.Goals as goal
 
 pub returns : goal.returns

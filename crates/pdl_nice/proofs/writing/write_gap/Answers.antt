@@ -1,5 +1,5 @@
 use Rattle.std.proofs.Common.{◌++◌, ◌∙◌, ap}
-use Rattle.pdl_nice.proofs.Places.{gap_is}
+use Rattle.pdl_nice.proofs.WritingPlaces.{gap_is}
 use Rattle.pdl_nice.proofs.writing.write_gap.Goals as goal
 
 pub returns : goal.returns

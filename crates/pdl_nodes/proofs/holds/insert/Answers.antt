@@ -2,10 +2,10 @@ use Rattle.std.proofs.Common.{sym, ◌∙◌, ap}
 use Rattle.pdl_nodes.specs.Holds.{hold_at}
 use Rattle.pdl_nodes.specs.Rows.{without}
 use Rattle.pdl_nodes.proofs.holds.insert.Goals as goal
-use Rattle.pdl_nodes.proofs.Finds.{has_below}
-use Rattle.pdl_nodes.proofs.Lookups.{is_above}
-use Rattle.pdl_nodes.proofs.Reaches.{no_hold, beside_same}
-use Rattle.pdl_nodes.proofs.Rests.{without_newest}
+use Rattle.pdl_nodes.proofs.RowFinds.{has_below}
+use Rattle.pdl_nodes.proofs.NumberedLookups.{is_above}
+use Rattle.pdl_nodes.proofs.HoldsReached.{no_hold, beside_same}
+use Rattle.pdl_nodes.proofs.RowRests.{without_newest}
 
 pub insert-requires-clause-new_root : goal.insert-requires-clause-new_root
 insert-requires-clause-new_root c = c.requires.new_root

@@ -1,8 +1,8 @@
-use Rattle.pdl_nodes.proofs.Below.{LawsBelow}
-use Rattle.pdl_nodes.proofs.Relaying.{relaid_stay}
-use Rattle.pdl_nodes.proofs.Relays.{severs, can_renew}
-use Rattle.pdl_nodes.proofs.RenewOrder.{roots, reshapes, outdated, leaves_families, leaves_others, settled, known, sized}
-use Rattle.pdl_nodes.proofs.RenewRows.{renew_has, renew_row}
+use Rattle.pdl_nodes.proofs.SizedBelow.{LawsBelow}
+use Rattle.pdl_nodes.proofs.RelayingLemmas.{relaid_stay}
+use Rattle.pdl_nodes.proofs.RenewLawLayouts.{severs, can_renew}
+use Rattle.pdl_nodes.proofs.RenewLawOrder.{roots, reshapes, outdated, leaves_families, leaves_others, settled, known, sized}
+use Rattle.pdl_nodes.proofs.RenewedRows.{renew_has, renew_row}
 use Rattle.pdl_nodes.proofs.laws.renewed_row_laws.Goals as goal
 
 pub returns : goal.returns

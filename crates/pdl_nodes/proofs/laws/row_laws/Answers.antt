@@ -1,23 +1,23 @@
-use Rattle.pdl_nodes.proofs.Alikes.{root_live, base_live, root_own, each_numbers, is_alike, each_past, ready_same, ready_trans}
-use Rattle.pdl_nodes.proofs.Alone.{nothing_goes, all_stand, kept_tells, last_beside, root_waits, alone_from, alone_tells, alone_let_go}
-use Rattle.pdl_nodes.proofs.OverBases.{over_known}
-use Rattle.pdl_nodes.proofs.RenewOrder.{world_ty, world_dims}
-use Rattle.pdl_nodes.proofs.Below.{sized_at}
-use Rattle.pdl_nodes.proofs.Falling.{none_goes, none_sum, stays_all, is_going}
-use Rattle.pdl_nodes.proofs.FamilyLemmas.{still_falls, elements_are, latest_none, latest_some, root_each, places_each, order_each, world_same, world_assigned}
-use Rattle.pdl_nodes.proofs.Finds.{each_has, each_at, has_below, below_more, not_newest, newest_gone}
-use Rattle.pdl_nodes.proofs.Gone.{let_go_is, noted_ready, under_first, under_listed, under_next, under_end}
-use Rattle.pdl_nodes.proofs.Joins.{pushed, world_pushed, new_root}
-use Rattle.pdl_nodes.proofs.Leavings.{sweep_stays}
-use Rattle.pdl_nodes.proofs.Paths.{parent_live, parent_root, path_is, path_first, fresh_stays, less_outdated}
-use Rattle.pdl_nodes.proofs.Seens.{has_older, row_older, places_older, is_seen, view_at}
-use Rattle.pdl_nodes.proofs.Elements.{root_shows, length_latest, length_write}
-use Rattle.pdl_nodes.proofs.Sizes.{sized_alike}
-use Rattle.pdl_nodes.proofs.Shapes.{marked_live, mark_buffered}
-use Rattle.pdl_nodes.proofs.Spotted.{below_at}
+use Rattle.pdl_nodes.proofs.AlikeLemmas.{root_live, base_live, root_own, each_numbers, is_alike, each_past, ready_same, ready_trans}
+use Rattle.pdl_nodes.proofs.HoldsAlone.{nothing_goes, all_stand, kept_tells, last_beside, root_waits, alone_from, alone_tells, alone_let_go}
+use Rattle.pdl_nodes.proofs.WorldsOverBases.{over_known}
+use Rattle.pdl_nodes.proofs.RenewLawOrder.{world_ty, world_dims}
+use Rattle.pdl_nodes.proofs.SizedBelow.{sized_at}
+use Rattle.pdl_nodes.proofs.GoingFalling.{none_goes, none_sum, stays_all, is_going}
+use Rattle.pdl_nodes.proofs.WorldFamilies.{still_falls, elements_are, latest_none, latest_some, root_each, places_each, order_each, world_same, world_assigned}
+use Rattle.pdl_nodes.proofs.RowFinds.{each_has, each_at, has_below, below_more, not_newest, newest_gone}
+use Rattle.pdl_nodes.proofs.HoldsGone.{let_go_is, noted_ready, under_first, under_listed, under_next, under_end}
+use Rattle.pdl_nodes.proofs.JoinedLemmas.{pushed, world_pushed, new_root}
+use Rattle.pdl_nodes.proofs.StayingLeavings.{sweep_stays}
+use Rattle.pdl_nodes.proofs.AlikePaths.{parent_live, parent_root, path_is, path_first, fresh_stays, less_outdated}
+use Rattle.pdl_nodes.proofs.RowsSeen.{has_older, row_older, places_older, is_seen, view_at}
+use Rattle.pdl_nodes.proofs.RowElements.{root_shows, length_latest, length_write}
+use Rattle.pdl_nodes.proofs.AlikeSizes.{sized_alike}
+use Rattle.pdl_nodes.proofs.RowShapes.{marked_live, mark_buffered}
+use Rattle.pdl_nodes.proofs.SpotLemmas.{below_at}
 use Rattle.pdl_nodes.proofs.WorldLemmas.{look_with}
-use Rattle.pdl_nodes.proofs.Origins.{own_root, root_buffered}
-use Rattle.pdl_nodes.proofs.Marks.{each_each, each_live}
+use Rattle.pdl_nodes.proofs.RowOrigins.{own_root, root_buffered}
+use Rattle.pdl_nodes.proofs.ChangesMarks.{each_each, each_live}
 use Rattle.pdl_nodes.proofs.laws.row_laws.Goals as goal
 
 pub returns : goal.returns

@@ -1,6 +1,6 @@
 use Rattle.std.proofs.Common.{arith}
 use Rattle.pdl_nodes.proofs.marked.take_out.Goals as goal
-use Rattle.pdl_nodes.proofs.Listing.{pulled}
+use Rattle.pdl_nodes.proofs.MarkedListing.{pulled}
 
 pub returns-then-at-len-2 : goal.returns-then-at-len-2
 returns-then-at-len-2 c = λ v n h.

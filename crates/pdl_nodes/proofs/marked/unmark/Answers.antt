@@ -1,6 +1,6 @@
 use Rattle.std.proofs.Common.{◌∙◌, arith}
 use Rattle.pdl_nodes.proofs.marked.unmark.Goals as goal
-use Rattle.pdl_nodes.proofs.Listing.{unmark_step, unmark_done}
+use Rattle.pdl_nodes.proofs.MarkedListing.{unmark_step, unmark_done}
 
 pub loop-id-preserved : goal.loop-id-preserved
 loop-id-preserved c = record {

@@ -3,9 +3,9 @@ use Rattle.pdl_nodes.specs.Changes.{unmark_in}
 use Rattle.pdl_nodes.specs.Rows.{Rows}
 use Rattle.pdl_nodes.specs.Table.{rows_of}
 use Rattle.pdl_nodes.proofs.marked.unmark_one.Goals as goal
-use Rattle.pdl_nodes.proofs.Calls.{changed_one, table_falls}
-use Rattle.pdl_nodes.proofs.Listing.{absent_one, base_one, one_here, one_others}
-use Rattle.pdl_nodes.proofs.Slots.{shows}
+use Rattle.pdl_nodes.proofs.TableCalls.{changed_one, table_falls}
+use Rattle.pdl_nodes.proofs.MarkedListing.{absent_one, base_one, one_here, one_others}
+use Rattle.pdl_nodes.proofs.TableSlots.{shows}
 
 pub returns-in-Some-clause-rows : goal.returns-in-Some-clause-rows
 returns-in-Some-clause-rows c =

@@ -4,7 +4,7 @@ use Rattle.std.specs.Prelude.{is_some}
 use Rattle.std.specs.List.{list_all}
 use Rattle.pdl_numbers.specs.Shown.{place_at}
 use Rattle.pdl_nodes.specs.Assigned.{seen}
-use Rattle.pdl_nodes.proofs.Moving.{all_seen}
+use Rattle.pdl_nodes.proofs.SpotsMoved.{all_seen}
 use Rattle.pdl_nodes.proofs.moves.are_seen.Goals as goal
 
 pub returns-then-is_identity : goal.returns-then-is_identity

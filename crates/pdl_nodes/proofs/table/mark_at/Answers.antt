@@ -4,8 +4,8 @@ use Rattle.pdl_nodes.specs.Rows.{Rows}
 use Rattle.pdl_nodes.specs.Marked.{AreListed, listed}
 use Rattle.pdl_nodes.specs.Table.{rows_of}
 use Rattle.pdl_nodes.proofs.table.mark_at.Goals as goal
-use Rattle.pdl_nodes.proofs.Calls.{table_falls}
-use Rattle.pdl_nodes.proofs.Listing.{table_one, unmarked, unmarked_base, kept_listed, marked_rows, listed_alone}
+use Rattle.pdl_nodes.proofs.TableCalls.{table_falls}
+use Rattle.pdl_nodes.proofs.MarkedListing.{table_one, unmarked, unmarked_base, kept_listed, marked_rows, listed_alone}
 
 pub set_mark-requires : goal.set_mark-requires
 set_mark-requires c = ap is_buffered (unmarked_base (rows_of c.args.nodes.now c.args.keys.now) c.args.marked.now c.args.keys.now c.unmark_one.new.nodes c.args.root c.args.base c.args.key c.index_mut.result.now (unmarked (rows_of c.args.nodes.now c.args.keys.now) c.args.marked.now c.args.keys.now c.args.nodes.now c.unmark.new.nodes c.unmark_one.new.nodes c.args.root c.args.base c.views.result.now refl c.views.ensures c.unmark.ensures.rows c.unmark_one.ensures.rows c.unmark_one.ensures.table) c.requires.live c.requires.key c.index_mut.ensures.value) ∙ c.requires.buffered

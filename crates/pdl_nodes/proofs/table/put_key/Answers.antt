@@ -1,5 +1,5 @@
 use Rattle.pdl_nodes.proofs.table.put_key.Goals as goal
-use Rattle.pdl_nodes.proofs.Counted.{added, taken_back}
+use Rattle.pdl_nodes.proofs.ChildrenCounted.{added, taken_back}
 
 pub take-requires : goal.take-requires
 take-requires c = record { noted = λ v. added c.args.children.now c.add.new.self c.args.parent c.args.id v c.in_ok-add.ensures.ok }

@@ -1,7 +1,7 @@
 use Rattle.std.proofs.Common.{◌+◌, drop, arith}
 use Rattle.pdl_nodes.proofs.upward.let_all.Goals as goal
-use Rattle.pdl_nodes.proofs.Gone.{under_first, under_listed}
-use Rattle.pdl_nodes.proofs.Letting.{holds_end, holds_next, letting_last, letting_more, letting_none}
+use Rattle.pdl_nodes.proofs.HoldsGone.{under_first, under_listed}
+use Rattle.pdl_nodes.proofs.HoldsLetGo.{holds_end, holds_next, letting_last, letting_more, letting_none}
 
 pub loop-start-init : goal.loop-start-init
 loop-start-init c = letting_none c.args.table.now c.args.holds.now c.args.loose.now c.args.id c.requires.beside c.requires.tight

@@ -1,7 +1,7 @@
 use Rattle.std.proofs.Common.{◌<◌, refl, sym, subst}
 use Rattle.pdl_nodes.specs.Holds.{going}
 use Rattle.pdl_nodes.proofs.upward.let_parent_up.Goals as goal
-use Rattle.pdl_nodes.proofs.Alone.{view_rising, view_risen, view_room}
+use Rattle.pdl_nodes.proofs.HoldsAlone.{view_rising, view_risen, view_room}
 
 pub note-requires : goal.note-requires
 note-requires c =

@@ -5,8 +5,8 @@ use Rattle.pdl_nodes.specs.Risen.{IsNoted}
 use Rattle.pdl_nodes.specs.Row.{parent_of}
 use Rattle.pdl_nodes.specs.Rows.{row_at}
 use Rattle.pdl_nodes.proofs.upward.let_up.Goals as goal
-use Rattle.pdl_nodes.proofs.Rests.{size_of}
-use Rattle.pdl_nodes.proofs.Rising.{IsRising, rising_none, rising_goes, rising_room, rising_smaller, rising_stays}
+use Rattle.pdl_nodes.proofs.RowRests.{size_of}
+use Rattle.pdl_nodes.proofs.HoldsRising.{IsRising, rising_none, rising_goes, rising_room, rising_smaller, rising_stays}
 
 pub loop-next-init : goal.loop-next-init
 loop-next-init c = rising_none c.args.table.now c.args.holds.now c.args.id c.requires.marked c.requires.live

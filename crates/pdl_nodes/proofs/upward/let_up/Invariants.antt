@@ -1,6 +1,6 @@
 use Rattle.pdl_nodes.proofs.upward.let_up.Given as goal
-use Rattle.pdl_nodes.proofs.Rests.{size_of}
-use Rattle.pdl_nodes.proofs.Rising.{IsRising}
+use Rattle.pdl_nodes.proofs.RowRests.{size_of}
+use Rattle.pdl_nodes.proofs.HoldsRising.{IsRising}
 
 abbrev pub invariant-loop-next : goal.invariant-loop-next
 invariant-loop-next l = IsRising l.table l.fn.holds l.holds l.id l.next

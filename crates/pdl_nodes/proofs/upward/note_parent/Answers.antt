@@ -1,7 +1,7 @@
 use Rattle.std.proofs.Common.{◌+◌, ◌<◌, sym, subst}
 use Rattle.pdl_nodes.specs.Holds.{going}
 use Rattle.pdl_nodes.proofs.upward.note_parent.Goals as goal
-use Rattle.pdl_nodes.proofs.Rising.{noted_none, noted_some}
+use Rattle.pdl_nodes.proofs.HoldsRising.{noted_none, noted_some}
 
 pub note-requires : goal.note-requires
 note-requires c = subst (λ n. going c.args.holds.now c.in-Some.id < n) (sym c.children.ensures) (c.requires c.in-Some.id c.in-Some.is)

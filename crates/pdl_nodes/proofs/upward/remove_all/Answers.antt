@@ -1,8 +1,8 @@
 use Rattle.std.proofs.Common.{◌+◌, [], ◌∷◌, drop, arith}
 use Rattle.pdl_nodes.proofs.upward.remove_all.Goals as goal
-use Rattle.pdl_nodes.proofs.FamilyLemmas.{still_falls}
-use Rattle.pdl_nodes.proofs.Gone.{removed_beside, under_end, under_next}
-use Rattle.pdl_nodes.proofs.Removing.{removed_all, removing_falls, removing_more, removing_none, removing_older}
+use Rattle.pdl_nodes.proofs.WorldFamilies.{still_falls}
+use Rattle.pdl_nodes.proofs.HoldsGone.{removed_beside, under_end, under_next}
+use Rattle.pdl_nodes.proofs.HoldsRemoved.{removed_all, removing_falls, removing_more, removing_none, removing_older}
 
 pub loop-start-init : goal.loop-start-init
 loop-start-init c = removing_none c.args.table.now c.args.holds.now (c.args.id ∷ c.args.loose.now) c.requires.noted

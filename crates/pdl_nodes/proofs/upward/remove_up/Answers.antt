@@ -4,8 +4,8 @@ use Rattle.pdl_nodes.specs.Risen.{IsNoted}
 use Rattle.pdl_nodes.specs.Row.{parent_of}
 use Rattle.pdl_nodes.specs.Rows.{has, row_at}
 use Rattle.pdl_nodes.proofs.upward.remove_up.Goals as goal
-use Rattle.pdl_nodes.proofs.Removing.{IsFalling, falling_none, falling_stays, falling_on, falling_smaller, falling_done}
-use Rattle.pdl_nodes.proofs.Rests.{size_of}
+use Rattle.pdl_nodes.proofs.HoldsRemoved.{IsFalling, falling_none, falling_stays, falling_on, falling_smaller, falling_done}
+use Rattle.pdl_nodes.proofs.RowRests.{size_of}
 
 pub loop-next-init : goal.loop-next-init
 loop-next-init c = falling_none c.args.id c.args.table.now c.args.holds.now c.requires.noted

@@ -7,8 +7,8 @@ use Rattle.pdl_nodes.specs.declared.origin.Origin.TheVariants.{View}
 use Rattle.pdl_nodes.specs.Joined.{IsNewView, dims_or, view_row}
 use Rattle.pdl_nodes.specs.Row.{Row}
 use Rattle.pdl_nodes.specs.Still.{base_over, triple_over}
-use Rattle.pdl_nodes.proofs.Below.{LawsBelow}
-use Rattle.pdl_nodes.proofs.Viewed.{new_view, view_row_is}
+use Rattle.pdl_nodes.proofs.SizedBelow.{LawsBelow}
+use Rattle.pdl_nodes.proofs.SizedViews.{new_view, view_row_is}
 use Rattle.pdl_nodes.proofs.views.view_node.Goals as goal
 
 pub returns-clause-new : goal.returns-clause-new

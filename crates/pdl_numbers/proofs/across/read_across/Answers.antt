@@ -8,7 +8,7 @@ use Rattle.pdl_elem.specs.Types.{InRange}
 use Rattle.pdl_shape.specs.Triple.{Triple}
 use Rattle.pdl_numbers.specs.Reads.{IsInside, across}
 use Rattle.pdl_numbers.specs.Shown.{place_at}
-use Rattle.pdl_numbers.proofs.Runs.{Across, across_at}
+use Rattle.pdl_numbers.proofs.ReadRuns.{Across, across_at}
 use Rattle.pdl_numbers.proofs.across.read_across.Goals as goal
 
 pub read_run-requires : goal.read_run-requires

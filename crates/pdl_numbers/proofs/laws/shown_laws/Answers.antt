@@ -1,4 +1,4 @@
-use Rattle.pdl_numbers.proofs.Shown.{shown}
+use Rattle.pdl_numbers.proofs.ShownLemmas.{shown}
 use Rattle.pdl_numbers.proofs.laws.shown_laws.Goals as goal
 
 pub returns : goal.returns

@@ -4,7 +4,7 @@ use Rattle.std.proofs.lemmas.List.{length-set}
 use Rattle.std.proofs.lemmas.Int.{to_z-of_z}
 use Rattle.std.specs.Int.{w64}
 use Rattle.pdl_numbers.specs.Bytes.{bytes_of}
-use Rattle.pdl_numbers.proofs.Bytes.{set_more, set_all}
+use Rattle.pdl_numbers.proofs.ByteLemmas.{set_more, set_all}
 use Rattle.pdl_numbers.proofs.packed.pack_all.Goals as goal
 
 pub loop-i-preserved : goal.loop-i-preserved

@@ -13,9 +13,9 @@ use Rattle.pdl_elem.specs.Types.{InRange}
 use Rattle.pdl_shape.specs.Places.{put, write}
 use Rattle.pdl_numbers.specs.Bytes.{bytes_of, number_of}
 use Rattle.pdl_numbers.specs.Writes.{stepped}
-use Rattle.pdl_numbers.proofs.Bytes.{set_packed, set_number}
-use Rattle.pdl_numbers.proofs.Lists.{write_more, write_done}
-use Rattle.pdl_numbers.proofs.Runs.{place_narrow}
+use Rattle.pdl_numbers.proofs.ByteLemmas.{set_packed, set_number}
+use Rattle.pdl_numbers.proofs.PlaceLists.{write_more, write_done}
+use Rattle.pdl_numbers.proofs.ReadRuns.{place_narrow}
 use Rattle.pdl_numbers.proofs.packed.pack_along.Goals as goal
 
 pub offset_bounds-cells-place_after : goal.offset_bounds-cells-place_after

@@ -3,7 +3,7 @@ use Rattle.std.proofs.Common.{◌≡◌, ℤ, pos, ◌<◌, get_or, rules, arith
 use Rattle.std.proofs.lemmas.Int.{to_z-of_z}
 use Rattle.std.specs.Int.{w32}
 use Rattle.std.specs.Int.RustNames.{FitsSigned}
-use Rattle.pdl_numbers.proofs.Ordered.{ordering_start, ordering_next, ordering_end, step_small}
+use Rattle.pdl_numbers.proofs.ShownInOrder.{ordering_start, ordering_next, ordering_end, step_small}
 use Rattle.pdl_numbers.proofs.placement.lie_in_order.Goals as goal
 
 pub loop-i-init : goal.loop-i-init

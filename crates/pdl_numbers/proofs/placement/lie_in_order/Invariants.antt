@@ -1,4 +1,4 @@
-use Rattle.pdl_numbers.proofs.Ordered.{Ordering}
+use Rattle.pdl_numbers.proofs.ShownInOrder.{Ordering}
 use Rattle.pdl_numbers.proofs.placement.lie_in_order.Given as goal
 
 -- the dimensions before i lie in order

@@ -5,7 +5,7 @@ use Rattle.std.specs.Prelude.{T}
 use Rattle.std.specs.Int.{w32, w64}
 use Rattle.std.specs.Int.RustNames.{unsigned_abs}
 use Rattle.std.specs.Int.Signed.{non_neg}
-use Rattle.pdl_numbers.proofs.Runs.{place_word, place_fits}
+use Rattle.pdl_numbers.proofs.ReadRuns.{place_word, place_fits}
 use Rattle.pdl_numbers.proofs.placement.place_after.Goals as goal
 
 pub overflow_cast-result : goal.overflow_cast-result

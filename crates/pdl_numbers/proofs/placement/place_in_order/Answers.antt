@@ -2,8 +2,8 @@
 use Rattle.std.proofs.Common.{◌≡◌, ◌+◌, arith, ap, sym, ◌∙◌, subst}
 use Rattle.pdl_shape.specs.Triple.{Triple, IsTriple}
 use Rattle.pdl_numbers.specs.Shown.{place_at}
-use Rattle.pdl_numbers.proofs.Ordered.{in_order_at}
-use Rattle.pdl_numbers.proofs.Walking.{Shows, shows_at}
+use Rattle.pdl_numbers.proofs.ShownInOrder.{in_order_at}
+use Rattle.pdl_numbers.proofs.ShownWalks.{Shows, shows_at}
 use Rattle.pdl_numbers.proofs.placement.place_in_order.Goals as goal
 
 place_is : (c : goal.After-triple) → place_at c.args.triple.now c.args.position ≡ c.triple.inside.offset + c.args.position

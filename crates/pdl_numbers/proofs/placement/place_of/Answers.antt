@@ -8,7 +8,7 @@ use Rattle.std.specs.Prelude.{T}
 use Rattle.pdl_shape.specs.Shape.{coordinates_of}
 use Rattle.pdl_shape.specs.Triple.{Triple, IsTriple, moved, place_of}
 use Rattle.pdl_numbers.specs.Shown.{place_at}
-use Rattle.pdl_numbers.proofs.Walking.{Shows, shows_at}
+use Rattle.pdl_numbers.proofs.ShownWalks.{Shows, shows_at}
 use Rattle.pdl_numbers.proofs.placement.place_of.Goals as goal
 
 shows : (c : goal.After-place_of_position-place) → Shows c.args.triple.now c.args.position

@@ -5,7 +5,7 @@ use Rattle.std.proofs.Math.Nat.{mod-le}
 use Rattle.std.specs.Int.{w32, w64}
 use Rattle.pdl_shape.specs.Shape.{coordinates_of}
 use Rattle.pdl_shape.specs.Triple.{moved}
-use Rattle.pdl_numbers.proofs.Walking.{Walk, IsStep, walk_start, walk_next, walk_end, step_bound, step_fits, sum_fits, product_is}
+use Rattle.pdl_numbers.proofs.ShownWalks.{Walk, IsStep, walk_start, walk_next, walk_end, step_bound, step_fits, sum_fits, product_is}
 use Rattle.pdl_numbers.proofs.placement.place_of_position.Goals as goal
 
 -- the product that the code finds is the increment times the coordinate, and it is small

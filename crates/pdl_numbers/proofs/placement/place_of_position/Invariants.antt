@@ -1,7 +1,7 @@
 use Rattle.std.proofs.Common.{◌+ℤ◌, pos}
 use Rattle.pdl_shape.specs.Shape.{coordinates_of}
 use Rattle.pdl_shape.specs.Triple.{moved}
-use Rattle.pdl_numbers.proofs.Walking.{Walk}
+use Rattle.pdl_numbers.proofs.ShownWalks.{Walk}
 use Rattle.pdl_numbers.proofs.placement.place_of_position.Given as goal
 
 -- the walk over the dimensions before i

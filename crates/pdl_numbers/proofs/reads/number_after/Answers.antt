@@ -5,7 +5,7 @@ use Rattle.std.proofs.lemmas.List.{get_or-map}
 use Rattle.std.specs.Int.{w32, w64}
 use Rattle.std.specs.Int.RustNames.{unsigned_abs}
 use Rattle.pdl_numbers.specs.Bytes.{number_of}
-use Rattle.pdl_numbers.proofs.Runs.{inside_below}
+use Rattle.pdl_numbers.proofs.ReadRuns.{inside_below}
 use Rattle.pdl_numbers.proofs.reads.number_after.Goals as goal
 
 pub returns : goal.returns

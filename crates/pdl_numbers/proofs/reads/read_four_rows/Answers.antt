@@ -3,7 +3,7 @@ use Rattle.std.proofs.Common.{◌≡◌, ℕ, ◌++◌, length, get_or, arith, s
 use Rattle.std.proofs.lemmas.Int.{to_z-of_z}
 use Rattle.std.specs.Int.{w32}
 use Rattle.pdl_numbers.specs.Reads.{HasRead}
-use Rattle.pdl_numbers.proofs.Runs.{FourRows, row_of, row_inside, row_there, no_step, four_rows, place_narrow}
+use Rattle.pdl_numbers.proofs.ReadRuns.{FourRows, row_of, row_inside, row_there, no_step, four_rows, place_narrow}
 use Rattle.pdl_numbers.proofs.reads.read_four_rows.Goals as goal
 
 pub place_after-second-requires-clause-place : goal.place_after-second-requires-clause-place

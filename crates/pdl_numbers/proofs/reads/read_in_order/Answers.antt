@@ -1,7 +1,7 @@
 -- A block of neighbours.
 use Rattle.std.proofs.Common.{ℕ, pos, get_or, arith, length, ap, ◌∙◌}
-use Rattle.pdl_numbers.proofs.Lists.{block_at}
-use Rattle.pdl_numbers.proofs.Runs.{Neighbours, neighbours, block_in_range}
+use Rattle.pdl_numbers.proofs.PlaceLists.{block_at}
+use Rattle.pdl_numbers.proofs.ReadRuns.{Neighbours, neighbours, block_in_range}
 use Rattle.pdl_numbers.proofs.reads.read_in_order.Goals as goal
 
 pub read_from-requires : goal.read_from-requires

@@ -2,7 +2,7 @@
 use Rattle.std.proofs.Common.{◌≡◌, pos, get_or, refl, arith, ◌∙◌, to_z, of_z}
 use Rattle.std.proofs.lemmas.Int.{to_z-of_z}
 use Rattle.std.specs.Int.{w32}
-use Rattle.pdl_numbers.proofs.Runs.{run_fits, run_element}
+use Rattle.pdl_numbers.proofs.ReadRuns.{run_fits, run_element}
 use Rattle.pdl_numbers.proofs.reads.read_row.Goals as goal
 
 pub read_run-requires : goal.read_run-requires

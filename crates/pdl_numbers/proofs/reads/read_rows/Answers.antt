@@ -5,7 +5,7 @@ use Rattle.std.proofs.Math.Nat.{add-mul, mul-le-mul}
 use Rattle.std.specs.Int.{w32}
 use Rattle.pdl_numbers.specs.Reads.{HasRead}
 use Rattle.pdl_numbers.specs.Shown.{place_at}
-use Rattle.pdl_numbers.proofs.Runs.{IsRow, row_is, run_fits, run_element, read_more, place_narrow, natural_place}
+use Rattle.pdl_numbers.proofs.ReadRuns.{IsRow, row_is, run_fits, run_element, read_more, place_narrow, natural_place}
 use Rattle.pdl_numbers.proofs.reads.read_rows.Goals as goal
 use borrow.Rule.Slice.PartMut.{put_mid}
 

@@ -4,7 +4,7 @@ use Rattle.std.proofs.lemmas.Int.{ints, to_z-of_z}
 use Rattle.std.specs.Int.{w32, w64}
 use Rattle.std.specs.Int.RustNames.{unsigned_abs}
 use Rattle.pdl_numbers.specs.Reads.{IsInside}
-use Rattle.pdl_numbers.proofs.Lists.{block_at}
+use Rattle.pdl_numbers.proofs.PlaceLists.{block_at}
 use Rattle.pdl_numbers.proofs.reads.read_run.Goals as goal
 
 -- the place so many neighbours on
@@ -32,7 +32,7 @@ stays z place j e = omega (arith, ints, ap (λ y. y *ℤ pos j) e)
 
 pub returns-then-into-gt0 : goal.returns-then-into-gt0
 returns-then-into-gt0 g c =
-    let zero : c.args.inc ≡ pos 0 = sym (to_z-of_z w32 c.args.inc c.ranges.inc) ∙ ap (to_z w32) c.if-inc-ne0.false in
+    let zero : c.args.inc ≡ pos 0 = sym (to_z-of_z w32 c.args.inc c.ranges.inc) ∙ ap (to_z w32) c.if-inc-eq0.true in
     let f : FitsSigned w64 c.get.result = record { sfits = c.get.type_inv } in
     λ j h.
     c.repeat_number.ensures j h ∙ to_z-of_z w64 c.get.result f ∙ c.get.ensures.value
@@ -40,7 +40,7 @@ returns-then-into-gt0 g c =
 
 pub get-requires : goal.get-requires
 get-requires g c =
-    let zero : c.args.inc ≡ pos 0 = sym (to_z-of_z w32 c.args.inc c.ranges.inc) ∙ ap (to_z w32) c.if-inc-ne0.false in
+    let zero : c.args.inc ≡ pos 0 = sym (to_z-of_z w32 c.args.inc c.ranges.inc) ∙ ap (to_z w32) c.if-inc-eq0.true in
     let i : IsInside (length c.args.numbers.now) (pos c.args.place +ℤ c.args.inc *ℤ pos 0) = c.requires.inside 0 c.if-into-gt0.true in
     let within : c.args.place < length c.args.numbers.now = omega (arith, ints, i.high, stays c.args.inc c.args.place 0 zero) in
     (omega arith, within)

@@ -1,6 +1,6 @@
 -- One part more.
 use Rattle.std.proofs.Common.{ℤ, arith, length, length-drop}
-use Rattle.pdl_numbers.proofs.Runs.{read_more, block_in_range}
+use Rattle.pdl_numbers.proofs.ReadRuns.{read_more, block_in_range}
 use Rattle.pdl_numbers.proofs.reads.read_runs.Goals as goal
 
 pub overflow_cast-position : goal.overflow_cast-position

@@ -6,7 +6,7 @@ use Rattle.std.specs.Int.{w32, w64}
 use Rattle.std.specs.Int.RustNames.{unsigned_abs}
 use Rattle.pdl_numbers.specs.Bytes.{number_of}
 use Rattle.pdl_numbers.specs.Reads.{IsInside}
-use Rattle.pdl_numbers.proofs.Lists.{each_more}
+use Rattle.pdl_numbers.proofs.PlaceLists.{each_more}
 use Rattle.pdl_numbers.proofs.reads.read_side_by_side.Goals as goal
 
 pub number_after-requires-in-loop-j-2 : goal.number_after-requires-in-loop-j-2

@@ -4,8 +4,8 @@ use Rattle.std.proofs.lemmas.Int.{to_z-of_z}
 use Rattle.std.proofs.lemmas.List.{get_or-drop, get_or-take, length-drop, length-take-le}
 use Rattle.std.specs.Int.{int_wrap, w64}
 use Rattle.pdl_shape.specs.Triple.{Triple}
-use Rattle.pdl_numbers.proofs.Runs.{Neighbours, neighbours}
-use Rattle.pdl_numbers.proofs.Shown.{block}
+use Rattle.pdl_numbers.proofs.ReadRuns.{Neighbours, neighbours}
+use Rattle.pdl_numbers.proofs.ShownLemmas.{block}
 use Rattle.pdl_numbers.proofs.sums.sum_in_order.Goals as goal
 
 pub sum_from-requires : goal.sum_from-requires

@@ -1,7 +1,7 @@
 use Rattle.std.proofs.Common.{ℕ, List, length, arith, ap, ◌∙◌}
 use Rattle.std.specs.Prelude.{Option}
 use Rattle.pdl_shape.specs.Places.{write}
-use Rattle.pdl_numbers.proofs.Writing.{order_run}
+use Rattle.pdl_numbers.proofs.WriteRuns.{order_run}
 use Rattle.pdl_numbers.proofs.writes.write_in_order.Goals as goal
 
 pub write_run-requires : goal.write_run-requires

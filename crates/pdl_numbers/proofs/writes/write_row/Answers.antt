@@ -3,7 +3,7 @@ use Rattle.std.proofs.lemmas.Int.{to_z-of_z}
 use Rattle.std.specs.Int.{w32}
 use Rattle.std.specs.Prelude.{Option}
 use Rattle.pdl_shape.specs.Places.{write}
-use Rattle.pdl_numbers.proofs.Writing.{row_run}
+use Rattle.pdl_numbers.proofs.WriteRuns.{row_run}
 use Rattle.pdl_numbers.proofs.writes.write_row.Goals as goal
 
 pub write_run-requires : goal.write_run-requires

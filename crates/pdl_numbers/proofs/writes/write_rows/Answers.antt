@@ -4,8 +4,8 @@ use Rattle.std.proofs.lemmas.List.FromFn.{length-map-range_with_len}
 use Rattle.std.specs.Prelude.{Some}
 use Rattle.pdl_numbers.specs.Shown.{place_at}
 use Rattle.pdl_numbers.specs.Writes.{placed_from}
-use Rattle.pdl_numbers.proofs.Lists.{write_done}
-use Rattle.pdl_numbers.proofs.Writing.{run_more}
+use Rattle.pdl_numbers.proofs.PlaceLists.{write_done}
+use Rattle.pdl_numbers.proofs.WriteRuns.{run_more}
 use Rattle.pdl_numbers.proofs.writes.write_rows.Goals as goal
 
 pub loop-done-preserved : goal.loop-done-preserved

@@ -1,7 +1,7 @@
 use Rattle.std.proofs.Common.{◌≡◌, pos, arith, ap, sym, ◌∙◌, to_z}
 use Rattle.std.proofs.lemmas.Int.{to_z-of_z}
 use Rattle.std.specs.Int.{w32}
-use Rattle.pdl_numbers.proofs.Writing.{neighbours_written}
+use Rattle.pdl_numbers.proofs.WriteRuns.{neighbours_written}
 use Rattle.pdl_numbers.proofs.writes.write_run.Goals as goal
 
 pub returns-then-start-values : goal.returns-then-start-values

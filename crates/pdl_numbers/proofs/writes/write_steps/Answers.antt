@@ -7,7 +7,7 @@ use Rattle.std.specs.Prelude.{Option, None, Some, unsigned_abs}
 use Rattle.std.proofs.lemmas.List.FromFn.{length-map-range_with_len, get_or-map-range_with_len}
 use Rattle.pdl_shape.specs.Places.{put, write}
 use Rattle.pdl_numbers.specs.Writes.{stepped}
-use Rattle.pdl_numbers.proofs.Lists.{write_more, write_done}
+use Rattle.pdl_numbers.proofs.PlaceLists.{write_more, write_done}
 use Rattle.pdl_numbers.proofs.writes.write_steps.Goals as goal
 
 pub loop-j-preserved : goal.loop-j-preserved

@@ -3,7 +3,7 @@ use Rattle.std.proofs.Common.{◌≡◌, ◌≤◌, ℕ, List, ap₂, sym, subst
 use Rattle.std.specs.Cmp.Lexicographic.{same_text}
 use Rattle.pdl_shape.specs.Joined.{joined_dims}
 use Rattle.pdl_shape.specs.Shape.{extent}
-use Rattle.pdl_ops.proofs.Results.{answers_same, elementwise_alike, elementwise_joined, joined_ok}
+use Rattle.pdl_ops.proofs.ElementwiseResults.{answers_same, elementwise_alike, elementwise_joined, joined_ok}
 use Rattle.pdl_ops.proofs.arrays.elementwise.Goals as goal
 
 pub returns-then-eq-clause-value : goal.returns-then-eq-clause-value

@@ -2,7 +2,7 @@
 use Rattle.std.proofs.Common.{ap, ap₂, ◌∙◌}
 use Rattle.pdl_elem.specs.declared.Ty.{Ty}
 use Rattle.pdl_elem.specs.Types.{promoted, binary_result}
-use Rattle.pdl_ops.proofs.Results.{of_alike_ok, result_at}
+use Rattle.pdl_ops.proofs.ElementwiseResults.{of_alike_ok, result_at}
 use Rattle.pdl_ops.proofs.arrays.of_alike.Goals as goal
 
 pub returns-clause-value : goal.returns-clause-value

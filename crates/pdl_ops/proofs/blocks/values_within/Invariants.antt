@@ -2,7 +2,7 @@
 use Rattle.std.proofs.Common.{◌≡◌, ◌≤◌, ◌*◌, ◌-◌, length, map}
 use Rattle.pdl_elem.specs.Numbers.{wrapped}
 use Rattle.pdl_elem.specs.Types.{binary_result}
-use Rattle.pdl_ops.proofs.Parts.{AreMade}
+use Rattle.pdl_ops.proofs.ElementwiseParts.{AreMade}
 use Rattle.pdl_ops.proofs.blocks.values_within.Given as goal
 
 abbrev pub invariant-loop-done : goal.invariant-loop-done

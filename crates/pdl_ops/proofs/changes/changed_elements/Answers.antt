@@ -6,7 +6,7 @@ use Rattle.pdl_elem.specs.declared.Ty.{Ty}
 use Rattle.pdl_elem.specs.Types.{InRange}
 use Rattle.pdl_shape.specs.Shape.{size_of}
 use Rattle.pdl_ops.specs.Changes.{changed, changed_type}
-use Rattle.pdl_ops.proofs.Parts.{changed_all, changed_more}
+use Rattle.pdl_ops.proofs.ElementwiseParts.{changed_all, changed_more}
 use Rattle.pdl_ops.proofs.changes.changed_elements.Goals as goal
 
 pub loop-done-preserved : goal.loop-done-preserved

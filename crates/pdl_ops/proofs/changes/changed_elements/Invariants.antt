@@ -2,7 +2,7 @@
 use Rattle.std.proofs.Common.{◌≡◌, ◌<◌, ◌≤◌, ◌-◌, length}
 use Rattle.pdl_elem.specs.Types.{InRange}
 use Rattle.pdl_ops.specs.Changes.{changed, changed_type}
-use Rattle.pdl_ops.proofs.Parts.{AreChanged}
+use Rattle.pdl_ops.proofs.ElementwiseParts.{AreChanged}
 use Rattle.pdl_ops.proofs.changes.changed_elements.Given as goal
 
 abbrev pub invariant-loop-done : goal.invariant-loop-done

@@ -12,9 +12,9 @@ use Rattle.pdl_elem.specs.declared.Ty.TheVariants.{Long}
 use Rattle.pdl_shape.specs.Shape.{size_of}
 use Rattle.pdl_ops.specs.Fills.{fill_element}
 use Rattle.pdl_ops.specs.declared.fills.Fill.{Fill}
-use Rattle.pdl_ops.proofs.Lists.{map_twice, part_of_range}
-use Rattle.pdl_ops.proofs.Parts.{changed_all, changed_more}
-use Rattle.pdl_ops.proofs.Results.{made_same}
+use Rattle.pdl_ops.proofs.BlockLists.{map_twice, part_of_range}
+use Rattle.pdl_ops.proofs.ElementwiseParts.{changed_all, changed_more}
+use Rattle.pdl_ops.proofs.ElementwiseResults.{made_same}
 use Rattle.pdl_ops.proofs.filling.fill.Goals as goal
 
 -- the elements before they are wrapped

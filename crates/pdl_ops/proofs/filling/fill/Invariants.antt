@@ -5,7 +5,7 @@ use Rattle.pdl_elem.specs.Numbers.{wrapped}
 use Rattle.pdl_elem.specs.Types.{InRange}
 use Rattle.pdl_shape.specs.Shape.{size_of}
 use Rattle.pdl_ops.specs.Fills.{fill_element}
-use Rattle.pdl_ops.proofs.Parts.{AreChanged}
+use Rattle.pdl_ops.proofs.ElementwiseParts.{AreChanged}
 use Rattle.pdl_ops.proofs.filling.fill.Given as goal
 
 abbrev pub invariant-loop-done : goal.invariant-loop-done

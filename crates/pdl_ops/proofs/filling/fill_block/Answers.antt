@@ -8,8 +8,8 @@ use Rattle.pdl_elem.specs.Types.{InRange}
 use Rattle.pdl_elem.specs.declared.Ty.TheVariants.{Long}
 use Rattle.pdl_shape.specs.Shape.{coordinates_of, size_of}
 use Rattle.pdl_ops.specs.Fills.{fill_element}
-use Rattle.pdl_ops.proofs.Coordinates.{x_at, y_at, some_width, some_height, long_holds_block}
-use Rattle.pdl_ops.proofs.Lists.{set_more, set_all}
+use Rattle.pdl_ops.proofs.FillCoordinates.{x_at, y_at, some_width, some_height, long_holds_block}
+use Rattle.pdl_ops.proofs.BlockLists.{set_more, set_all}
 use Rattle.pdl_ops.proofs.filling.fill_block.Goals as goal
 
 pub next_coordinates-next-requires-clause-x : goal.next_coordinates-next-requires-clause-x

@@ -1,6 +1,6 @@
 -- The next position is in the same row, in the next one, or in row 0.
 use Rattle.std.proofs.Common.{◌≡◌, ℕ, ◌+◌, ◌/◌, ◌%◌, ◌<◌, arith, ap, sym, ◌∙◌}
-use Rattle.pdl_ops.proofs.Coordinates.{rest_more, rest_none, rows_more, rows_same}
+use Rattle.pdl_ops.proofs.FillCoordinates.{rest_more, rest_none, rows_more, rows_same}
 use Rattle.pdl_ops.proofs.fills.next_coordinates.Goals as goal
 
 pub returns-then-x-width-clause-y : goal.returns-then-x-width-clause-y

@@ -10,8 +10,8 @@ use Rattle.pdl_elem.specs.Operators.{divides}
 use Rattle.pdl_elem.specs.Numbers.{wrapped}
 use Rattle.pdl_shape.specs.Shape.{size_of}
 use Rattle.pdl_lemmas.specs.Lists.{take_written}
-use Rattle.pdl_ops.proofs.Cuts.{block_map}
-use Rattle.pdl_ops.proofs.Zeros.{zero_none, zero_after, zero_before}
+use Rattle.pdl_ops.proofs.ValueCuts.{block_map}
+use Rattle.pdl_ops.proofs.BlockZeros.{zero_none, zero_after, zero_before}
 use Rattle.pdl_ops.proofs.in_parts.divisor_within.Goals as goal
 
 -- no divisor before the next block, and none in it

@@ -1,6 +1,6 @@
 use Rattle.std.proofs.Common.{◌≡◌, sym, ◌∙◌, ap₂}
 use Rattle.pdl_ops.specs.Values.{fits}
-use Rattle.pdl_ops.proofs.Cuts.{fits_stretch}
+use Rattle.pdl_ops.proofs.ValueCuts.{fits_stretch}
 use Rattle.pdl_ops.proofs.in_parts.stretches.Goals as goal
 
 pub returns-clause-stretches : goal.returns-clause-stretches

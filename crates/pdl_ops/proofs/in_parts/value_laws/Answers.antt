@@ -1,5 +1,5 @@
-use Rattle.pdl_ops.proofs.Cuts.{length_values, values_cut}
-use Rattle.pdl_ops.proofs.Fitting.{stretched_itself}
+use Rattle.pdl_ops.proofs.ValueCuts.{length_values, values_cut}
+use Rattle.pdl_ops.proofs.ValueFitting.{stretched_itself}
 use Rattle.pdl_ops.proofs.in_parts.value_laws.Goals as goal
 
 pub returns-clause-parts : goal.returns-clause-parts

@@ -1,4 +1,4 @@
-use Rattle.pdl_ops.proofs.Forms.{converted_array, elementwise_array, forms_alike, never_divides, unary_array}
+use Rattle.pdl_ops.proofs.ElementwiseForms.{converted_array, elementwise_array, forms_alike, never_divides, unary_array}
 use Rattle.pdl_ops.proofs.laws.array_laws.Goals as goal
 
 pub returns-clause-form : goal.returns-clause-form

@@ -2,7 +2,7 @@
 use Rattle.std.proofs.Common.{rules, ◌≡◌, sym, subst, All}
 use Rattle.pdl_elem.specs.declared.Ty.{Ty}
 use Rattle.pdl_elem.specs.Types.{InRange}
-use Rattle.pdl_ops.proofs.Lists.{wrapped_stay}
+use Rattle.pdl_ops.proofs.BlockLists.{wrapped_stay}
 use Rattle.pdl_ops.proofs.operands.rewrap.Goals as goal
 
 pub returns-else-ne-clause-value : goal.returns-else-ne-clause-value

@@ -10,8 +10,8 @@ use Rattle.pdl_buf.specs.Window.{Window}
 use Rattle.pdl_buf.specs.Made.{array_of}
 use Rattle.pdl_ops.specs.Elementwise.{OpRefusal, no_dims}
 use Rattle.pdl_ops.specs.Values.{fits, new_values, values_for}
-use Rattle.pdl_ops.proofs.Fitting.{joined_padded, joined_never, padded_stretched}
-use Rattle.pdl_ops.proofs.Results.{answers_same, stretched_length, values_alike}
+use Rattle.pdl_ops.proofs.ValueFitting.{joined_padded, joined_never, padded_stretched}
+use Rattle.pdl_ops.proofs.ElementwiseResults.{answers_same, stretched_length, values_alike}
 use Rattle.pdl_ops.proofs.values.values_for.Goals as goal
 
 pub new_values-requires-in-Ok : goal.new_values-requires-in-Ok

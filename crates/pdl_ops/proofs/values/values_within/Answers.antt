@@ -5,7 +5,7 @@ use Rattle.pdl_numbers.specs.Typed.{TypedElements}
 use Rattle.pdl_elem.specs.declared.Ty.{Ty}
 use Rattle.pdl_elem.specs.Types.{InRange}
 use Rattle.pdl_shape.specs.Shape.{size_of}
-use Rattle.pdl_ops.proofs.Parts.{found_all, found_first, found_more, found_part}
+use Rattle.pdl_ops.proofs.ElementwiseParts.{found_all, found_first, found_more, found_part}
 use Rattle.pdl_ops.proofs.values.values_within.Goals as goal
 
 pub loop-done-init : goal.loop-done-init

@@ -1,6 +1,6 @@
 -- The values before the next part are made, and there is room for it.
 use Rattle.std.proofs.Common.{◌≡◌, ◌≤◌, ◌*◌, ◌-◌, length}
-use Rattle.pdl_ops.proofs.Parts.{AreFound}
+use Rattle.pdl_ops.proofs.ElementwiseParts.{AreFound}
 use Rattle.pdl_ops.proofs.values.values_within.Given as goal
 
 abbrev pub invariant-loop-done : goal.invariant-loop-done

@@ -5,8 +5,8 @@ use Rattle.std.proofs.Math.Nat.{mul-le-mul_right}
 use Rattle.std.proofs.lemmas.Result.{on_ok_weaker}
 use Rattle.pdl_shape.specs.Shape.{size_of}
 use Rattle.pdl_print.specs.Printed.{block, pieces, spaces}
-use Rattle.pdl_print.proofs.Fronts.{begins_then, begins_with}
-use Rattle.pdl_print.proofs.Texts.{Members, members_of, member_more, block_plane, block_around, length_from, closed}
+use Rattle.pdl_print.proofs.PieceFronts.{begins_then, begins_with}
+use Rattle.pdl_print.proofs.PrintedTexts.{Members, members_of, member_more, block_plane, block_around, length_from, closed}
 use Rattle.pdl_print.proofs.pieces.+push_block.Goals as goal
 
 -- what holds of a block's members, whose number was read

@@ -1,5 +1,5 @@
 -- What was there before stays in front.
-use Rattle.pdl_print.proofs.Fronts.{begins_then}
+use Rattle.pdl_print.proofs.PieceFronts.{begins_then}
 use Rattle.pdl_print.proofs.pieces.push_elements.Goals as goal
 
 pub returns-then-is_empty-clause-front : goal.returns-then-is_empty-clause-front

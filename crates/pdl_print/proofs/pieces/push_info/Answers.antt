@@ -1,5 +1,5 @@
 -- What was there before stays in front.
-use Rattle.pdl_print.proofs.Fronts.{begins_by, begins_then}
+use Rattle.pdl_print.proofs.PieceFronts.{begins_by, begins_then}
 use Rattle.pdl_print.proofs.pieces.push_info.Goals as goal
 
 pub returns-in_err-push_sizes-clause-front : goal.returns-in_err-push_sizes-clause-front

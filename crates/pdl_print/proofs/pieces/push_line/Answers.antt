@@ -6,8 +6,8 @@ use Rattle.std.specs.List.{join_with_byte}
 use Rattle.std.proofs.lemmas.Result.{on_ok_weaker}
 use Rattle.std.proofs.lemmas.List.{take_all}
 use Rattle.pdl_print.specs.Printed.{aligned, spaces}
-use Rattle.pdl_print.proofs.Fronts.{begins_by, begins_then, begins_with}
-use Rattle.pdl_print.proofs.Texts.{join_one, join_more, grown, closed}
+use Rattle.pdl_print.proofs.PieceFronts.{begins_by, begins_then, begins_with}
+use Rattle.pdl_print.proofs.PrintedTexts.{join_one, join_more, grown, closed}
 use Rattle.pdl_print.proofs.pieces.push_line.Goals as goal
 
 pub loop-i-init : goal.loop-i-init

@@ -2,8 +2,8 @@
 use Rattle.std.proofs.Common.{ℕ, List, ◌+◌, ◌*◌, ◌++◌, ◌∷◌, [], take, drop, ap, sym, ◌∙◌, append_assoc}
 use Rattle.std.proofs.lemmas.Result.{on_ok_weaker}
 use Rattle.pdl_print.specs.Printed.{lines, spaces}
-use Rattle.pdl_print.proofs.Fronts.{begins_then}
-use Rattle.pdl_print.proofs.Texts.{closed}
+use Rattle.pdl_print.proofs.PieceFronts.{begins_then}
+use Rattle.pdl_print.proofs.PrintedTexts.{closed}
 use Rattle.pdl_print.proofs.pieces.push_plane.Goals as goal
 
 pub returns-clause-ok : goal.returns-clause-ok

@@ -2,8 +2,8 @@
 use Rattle.std.proofs.Common.{◌≡◌, ℕ, ℤ, List, ◌+◌, ◌-◌, ◌*◌, ◌++◌, take, drop, arith, ap, ap₂, sym, ◌∙◌, append_assoc}
 use Rattle.std.specs.Prelude.{flat_map}
 use Rattle.pdl_print.specs.Printed.{line, widest, pieces}
-use Rattle.pdl_print.proofs.Fronts.{begins_by, begins_then}
-use Rattle.pdl_print.proofs.Texts.{flat_more}
+use Rattle.pdl_print.proofs.PieceFronts.{begins_by, begins_then}
+use Rattle.pdl_print.proofs.PrintedTexts.{flat_more}
 use Rattle.pdl_print.proofs.pieces.push_rows.Goals as goal
 
 pub loop-row-preserved : goal.loop-row-preserved

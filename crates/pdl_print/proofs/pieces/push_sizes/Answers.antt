@@ -1,8 +1,8 @@
 -- One size more.
 use Rattle.std.proofs.Common.{ℕ, List, ◌+◌, ◌-◌, ◌<◌, ◌++◌, ◌∷◌, [], length, take, drop, get_or, arith, ap, sym, ◌∙◌}
 use Rattle.std.specs.Prelude.{decimal}
-use Rattle.pdl_print.proofs.Fronts.{begins_by, begins_then}
-use Rattle.pdl_print.proofs.Texts.{join_more, grown, rest_at}
+use Rattle.pdl_print.proofs.PieceFronts.{begins_by, begins_then}
+use Rattle.pdl_print.proofs.PrintedTexts.{join_more, grown, rest_at}
 use Rattle.pdl_print.specs.Printed.{decimals_joined}
 use Rattle.pdl_print.proofs.pieces.push_sizes.Goals as goal
 

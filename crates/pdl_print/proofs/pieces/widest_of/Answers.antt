@@ -4,7 +4,7 @@ use Rattle.std.specs.Int.{w64}
 use Rattle.std.specs.Fmt.{signed_decimal}
 use Rattle.std.proofs.lemmas.List.Sums.{fold_more}
 use Rattle.std.proofs.lemmas.Int.{to_z-of_z}
-use Rattle.pdl_print.proofs.Texts.{ord_max_is}
+use Rattle.pdl_print.proofs.PrintedTexts.{ord_max_is}
 use Rattle.pdl_print.proofs.pieces.widest_of.Goals as goal
 
 pub loop-number-preserved : goal.loop-number-preserved

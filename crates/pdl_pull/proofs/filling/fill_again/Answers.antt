@@ -7,8 +7,8 @@ use Rattle.pdl_nodes.specs.Families.{has_repeats}
 use Rattle.pdl_nodes.specs.Row.{Row}
 use Rattle.pdl_nodes.specs.Rows.{row_at}
 use Rattle.pdl_nodes.specs.Worlds.{places_seen}
-use Rattle.pdl_pull.proofs.Fills.{is_filled}
-use Rattle.pdl_pull.proofs.Untouched.{filled_only}
+use Rattle.pdl_pull.proofs.FilledViews.{is_filled}
+use Rattle.pdl_pull.proofs.FilledElsewhere.{filled_only}
 use Rattle.pdl_pull.proofs.filling.fill_again.Goals as goal
 
 pub returns-clause-counted : goal.returns-clause-counted

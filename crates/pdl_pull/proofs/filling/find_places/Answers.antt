@@ -10,7 +10,7 @@ use Rattle.pdl_nodes.specs.Worlds.{places_seen}
 use Rattle.pdl_nodes.specs.declared.origin.Layout.{Layout}
 use Rattle.pdl_nodes.specs.declared.origin.Origin.TheVariants.{View}
 use Rattle.pdl_pull.specs.Gathered.{own_at}
-use Rattle.pdl_pull.proofs.Found.{found_places, over_known, own_below}
+use Rattle.pdl_pull.proofs.GatheredPlaces.{found_places, over_known, own_below}
 use Rattle.pdl_pull.proofs.filling.find_places.Goals as goal
 
 pub unreachable-requires : goal.unreachable-requires

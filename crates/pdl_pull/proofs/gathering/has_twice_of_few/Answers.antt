@@ -2,7 +2,7 @@ use Rattle.std.proofs.Common.{◌≡◌, ◌+◌, ◌-◌, ℕ, List, Option, le
 use Rattle.std.proofs.Math.Seq.{take-length}
 use Rattle.std.proofs.lemmas.List.{length-drop}
 use Rattle.pdl_nodes.specs.Families.{is_among}
-use Rattle.pdl_pull.proofs.Gathered.{twice_here}
+use Rattle.pdl_pull.proofs.PlacedGathered.{twice_here}
 use Rattle.pdl_pull.proofs.gathering.has_twice_of_few.Goals as goal
 
 -- all that come from a position on

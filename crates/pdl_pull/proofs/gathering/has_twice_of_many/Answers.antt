@@ -1,7 +1,7 @@
 use Rattle.std.proofs.Common.{◌<◌, ◌∙◌, sym, false, ℕ, Option, Some, None, subst, arith}
 use Rattle.std.proofs.lemmas.List.{get_or_default}
 use Rattle.pdl_shape.specs.Places.{IsBelow}
-use Rattle.pdl_pull.proofs.Gathered.{twice_here}
+use Rattle.pdl_pull.proofs.PlacedGathered.{twice_here}
 use Rattle.pdl_pull.proofs.gathering.has_twice_of_many.Goals as goal
 
 pub returns-then-index : goal.returns-then-index

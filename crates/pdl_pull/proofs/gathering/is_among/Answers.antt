@@ -1,5 +1,5 @@
 use Rattle.std.proofs.Common.{arith}
-use Rattle.pdl_pull.proofs.Gathered.{among_here}
+use Rattle.pdl_pull.proofs.PlacedGathered.{among_here}
 use Rattle.pdl_pull.proofs.gathering.is_among.Goals as goal
 
 pub returns-then-other-at : goal.returns-then-other-at

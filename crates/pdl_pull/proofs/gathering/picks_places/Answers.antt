@@ -3,7 +3,7 @@ use Rattle.std.proofs.Common.{ℕ, arith, sym, subst, ◌∙◌}
 use Rattle.std.specs.Prelude.{None}
 use Rattle.std.proofs.lemmas.List.Elements.{All-from_get_or}
 use Rattle.pdl_shape.specs.Places.{AllBelow, IsBelow}
-use Rattle.pdl_pull.proofs.Gathered.{picked}
+use Rattle.pdl_pull.proofs.PlacedGathered.{picked}
 use Rattle.pdl_pull.proofs.gathering.picks_places.Goals as goal
 
 pub returns : goal.returns

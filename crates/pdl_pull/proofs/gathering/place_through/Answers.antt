@@ -1,5 +1,5 @@
 use Rattle.std.proofs.Common.{arith}
-use Rattle.pdl_pull.proofs.Gathered.{through_is, through_past}
+use Rattle.pdl_pull.proofs.PlacedGathered.{through_is, through_past}
 use Rattle.pdl_pull.proofs.gathering.place_through.Goals as goal
 
 pub returns-in-Some : goal.returns-in-Some

@@ -5,8 +5,8 @@ use Rattle.pdl_nodes.specs.Row.{parent_of}
 use Rattle.pdl_nodes.specs.Rows.{row_at, has}
 use Rattle.pdl_pull.specs.Filled.{FillsOnly}
 use Rattle.pdl_pull.specs.Outdated.{outdated}
-use Rattle.pdl_pull.proofs.Paths.{path_alone, parent_fresh, path_fresh_over, path_fresh_root, outdated_more, outdated_one}
-use Rattle.pdl_pull.proofs.Untouched.{only_above, only_path}
+use Rattle.pdl_pull.proofs.FilledPaths.{path_alone, parent_fresh, path_fresh_over, path_fresh_root, outdated_more, outdated_one}
+use Rattle.pdl_pull.proofs.FilledElsewhere.{only_above, only_path}
 use Rattle.pdl_pull.proofs.refreshing.+refresh.Goals as goal
 
 pub refresh-requires : goal.refresh-requires

@@ -3,8 +3,8 @@ use Rattle.std.proofs.lemmas.Result.{on_ok_weaker}
 use Rattle.pdl_shape.specs.Shape.{size_of}
 use Rattle.pdl_nodes.specs.Outcomes.{outdated_at}
 use Rattle.pdl_nodes.specs.Rows.{row_at}
-use Rattle.pdl_pull.proofs.Paths.{is_stale, is_outdated, stale_cost, filled_fresh}
-use Rattle.pdl_pull.proofs.Untouched.{kept_so}
+use Rattle.pdl_pull.proofs.FilledPaths.{is_stale, is_outdated, stale_cost, filled_fresh}
+use Rattle.pdl_pull.proofs.FilledElsewhere.{kept_so}
 use Rattle.pdl_pull.proofs.refreshing.freshen.Goals as goal
 
 pub fill-requires-clause-outdated : goal.fill-requires-clause-outdated

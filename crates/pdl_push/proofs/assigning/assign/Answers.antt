@@ -6,8 +6,8 @@ use Rattle.pdl_nodes.specs.Rows.{Rows, each, row_at}
 use Rattle.pdl_nodes.specs.declared.node.Goal.TheVariants.{Root}
 use Rattle.pdl_nodes.specs.declared.node.Shown.{Shown}
 use Rattle.pdl_push.specs.Targets.{IsAssigned, WaitsTarget}
-use Rattle.pdl_push.proofs.Assigned.{at_root}
-use Rattle.pdl_push.proofs.Targets.{target_root}
+use Rattle.pdl_push.proofs.LateAssignments.{at_root}
+use Rattle.pdl_push.proofs.TargetLemmas.{target_root}
 use Rattle.pdl_push.proofs.assigning.assign.Goals as goal
 
 pub returns-in-None-clause-assigned : goal.returns-in-None-clause-assigned

@@ -6,8 +6,8 @@ use Rattle.pdl_nodes.specs.Row.{Row, is_buffered}
 use Rattle.pdl_nodes.specs.Rows.{row_at, has, each}
 use Rattle.pdl_nodes.specs.declared.node.Goal.TheVariants.{Base}
 use Rattle.pdl_nodes.specs.declared.node.Shown.{Shown}
-use Rattle.pdl_push.proofs.Assigned.{at_base, there}
-use Rattle.pdl_push.proofs.RowsAfter.{again_all, based_all}
+use Rattle.pdl_push.proofs.LateAssignments.{at_base, there}
+use Rattle.pdl_push.proofs.LateRows.{again_all, based_all}
 use Rattle.pdl_push.proofs.assigning.assign_at_base.Goals as goal
 
 none_not : (o : Option ℕ) (b : Bool) → is_some o ≡ not b → b ≡ false → o ≡ None → ⊥

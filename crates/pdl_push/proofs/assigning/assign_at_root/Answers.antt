@@ -5,7 +5,7 @@ use Rattle.pdl_nodes.specs.Row.{Row, is_buffered}
 use Rattle.pdl_nodes.specs.Rows.{each, has, row_at}
 use Rattle.pdl_nodes.specs.declared.node.Goal.TheVariants.{Root}
 use Rattle.pdl_nodes.specs.declared.node.Shown.{Shown}
-use Rattle.pdl_push.proofs.Assigned.{at_root, there}
+use Rattle.pdl_push.proofs.LateAssignments.{at_root, there}
 use Rattle.pdl_push.proofs.assigning.assign_at_root.Goals as goal
 
 pub mark-requires-clause-root : goal.mark-requires-clause-root

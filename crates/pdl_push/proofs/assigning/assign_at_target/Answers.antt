@@ -1,8 +1,8 @@
 use Rattle.std.proofs.Common.{true, false, sym, ◌∙◌, ap}
 use Rattle.pdl_nodes.specs.Row.{Row}
 use Rattle.pdl_nodes.specs.declared.node.Shown.{Shown}
-use Rattle.pdl_push.proofs.Assigned.{there}
-use Rattle.pdl_push.proofs.Targets.{flag_is, target_repeats, target_root}
+use Rattle.pdl_push.proofs.LateAssignments.{there}
+use Rattle.pdl_push.proofs.TargetLemmas.{flag_is, target_repeats, target_root}
 use Rattle.pdl_push.proofs.assigning.assign_at_target.Goals as goal
 
 pub assign_at_root-requires-clause-target : goal.assign_at_root-requires-clause-target

@@ -10,9 +10,9 @@ use Rattle.pdl_nodes.specs.Rows.{Rows, each, row_at}
 use Rattle.pdl_nodes.specs.Worlds.{places_seen}
 use Rattle.pdl_nodes.specs.declared.node.Goal.TheVariants.{Root}
 use Rattle.pdl_push.specs.Targets.{IsAssigned, WaitsTarget}
-use Rattle.pdl_push.proofs.Assigned.{at_root}
-use Rattle.pdl_push.proofs.Puts.{written_whole}
-use Rattle.pdl_push.proofs.Targets.{target_root}
+use Rattle.pdl_push.proofs.LateAssignments.{at_root}
+use Rattle.pdl_push.proofs.PlacePuts.{written_whole}
+use Rattle.pdl_push.proofs.TargetLemmas.{target_root}
 use Rattle.pdl_push.proofs.assigning.replace.Goals as goal
 
 -- elements for each position of a root are what it keeps once they are put into it

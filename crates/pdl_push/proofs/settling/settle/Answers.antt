@@ -1,6 +1,6 @@
 use Rattle.std.proofs.Common.{◌∙◌, sym, ap}
 use Rattle.pdl_nodes.specs.Row.{Row}
-use Rattle.pdl_push.proofs.AtRoot.{settled_back}
+use Rattle.pdl_push.proofs.LateAtRoot.{settled_back}
 use Rattle.pdl_push.proofs.settling.settle.Goals as goal
 
 pub node-requires-2 : goal.node-requires-2

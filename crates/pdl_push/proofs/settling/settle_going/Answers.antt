@@ -4,7 +4,7 @@ use Rattle.pdl_nodes.specs.Holds.{stands}
 use Rattle.pdl_nodes.specs.Row.{Row}
 use Rattle.pdl_nodes.specs.Rows.{row_at}
 use Rattle.pdl_push.specs.Settled.{IsSettledAt}
-use Rattle.pdl_push.proofs.Goings.{settled_none, size_none, size_some, settled_some}
+use Rattle.pdl_push.proofs.LateGoings.{settled_none, size_none, size_some, settled_some}
 use Rattle.pdl_push.proofs.settling.settle_going.Goals as goal
 
 pub going-requires : goal.going-requires

@@ -3,7 +3,7 @@ use Rattle.pdl_nodes.specs.Changes.{marked_in, wait_in}
 use Rattle.pdl_nodes.specs.Families.{IsWaiting}
 use Rattle.pdl_nodes.specs.Row.{Row, is_buffered}
 use Rattle.pdl_nodes.specs.Rows.{row_at, has, each}
-use Rattle.pdl_push.proofs.RowsAfter.{written}
+use Rattle.pdl_push.proofs.LateRows.{written}
 use Rattle.pdl_push.proofs.settling.write_back.Goals as goal
 
 pub mark_root-requires-clause-live : goal.mark_root-requires-clause-live

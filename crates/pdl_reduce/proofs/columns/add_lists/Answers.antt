@@ -5,7 +5,7 @@ use Rattle.std.proofs.Math.Nat.{mul-le-mul_right}
 use Rattle.std.specs.Int.{w64}
 use Rattle.std.specs.List.{range_with_len}
 use Rattle.pdl_reduce.specs.Across.{come_to}
-use Rattle.pdl_reduce.proofs.Across.{parts_join}
+use Rattle.pdl_reduce.proofs.AcrossLemmas.{parts_join}
 use Rattle.pdl_reduce.proofs.columns.add_lists.Goals as goal
 
 pub loop-done-preserved : goal.loop-done-preserved

@@ -7,7 +7,7 @@ use Rattle.std.proofs.lemmas.List.{length-map, get_or-map}
 use Rattle.pdl_elem.specs.Numbers.{wrapped}
 use Rattle.pdl_numbers.specs.Typed.{TypedElements}
 use Rattle.pdl_reduce.specs.Across.{come_to}
-use Rattle.pdl_reduce.proofs.Across.{part_is}
+use Rattle.pdl_reduce.proofs.AcrossLemmas.{part_is}
 use Rattle.pdl_reduce.proofs.columns.add_part.Goals as goal
 
 pub returns-clause-value : goal.returns-clause-value

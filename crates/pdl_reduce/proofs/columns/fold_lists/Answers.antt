@@ -5,7 +5,7 @@ use Rattle.std.proofs.lemmas.List.{take_all}
 use Rattle.std.proofs.lemmas.List.Sums.{fold_more}
 use Rattle.std.specs.Int.{w64}
 use Rattle.pdl_reduce.specs.Reductions.{nth_list}
-use Rattle.pdl_reduce.proofs.Across.{list_within, place_across, across_within, lie_across, list_length, list_element}
+use Rattle.pdl_reduce.proofs.AcrossLemmas.{list_within, place_across, across_within, lie_across, list_length, list_element}
 use Rattle.pdl_reduce.proofs.columns.fold_lists.Goals as goal
 
 pub strided_read_across-requires-clause-along : goal.strided_read_across-requires-clause-along

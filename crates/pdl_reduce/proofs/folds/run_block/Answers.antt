@@ -4,7 +4,7 @@ use Rattle.std.proofs.lemmas.Int.{to_z-of_z}
 use Rattle.std.proofs.lemmas.List.Sums.{fold_more}
 use Rattle.std.specs.Int.{w64}
 use Rattle.pdl_reduce.specs.Folds.{at_prefixes}
-use Rattle.pdl_reduce.proofs.Running.{ahead, written_more, written_all}
+use Rattle.pdl_reduce.proofs.FoldRunning.{ahead, written_more, written_all}
 use Rattle.pdl_reduce.proofs.folds.run_block.Goals as goal
 
 pub loop-number-preserved : goal.loop-number-preserved

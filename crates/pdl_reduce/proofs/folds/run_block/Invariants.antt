@@ -1,6 +1,6 @@
 -- What the numbers before this one come to; they are written over, and the others still stand.
 use Rattle.std.proofs.Common.{◌≡◌, fold, take, drop, ◌++◌}
-use Rattle.pdl_reduce.proofs.Running.{running}
+use Rattle.pdl_reduce.proofs.FoldRunning.{running}
 use Rattle.pdl_reduce.proofs.folds.run_block.Given as goal
 
 abbrev pub invariant-loop-number : goal.invariant-loop-number

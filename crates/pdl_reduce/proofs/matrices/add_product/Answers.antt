@@ -6,7 +6,7 @@ use Rattle.std.proofs.lemmas.Nat.{div-mul-add, mod-mul-add}
 use Rattle.pdl_numbers.specs.Typed.{TypedElements}
 use Rattle.pdl_elem.specs.Numbers.{wrapped}
 use Rattle.pdl_reduce.specs.Blocks.{product_at, sum_at}
-use Rattle.pdl_reduce.proofs.Matrix.{range_more}
+use Rattle.pdl_reduce.proofs.BlockProducts.{range_more}
 use Rattle.pdl_reduce.proofs.matrices.add_product.Goals as goal
 
 pub loop-i-preserved : goal.loop-i-preserved

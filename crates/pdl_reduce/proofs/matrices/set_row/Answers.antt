@@ -3,7 +3,7 @@ use Rattle.std.proofs.Common.{◌≤◌, ◌+◌, ◌-◌, ◌*◌, ℕ, ℤ, Li
 use Rattle.std.proofs.lemmas.Int.{to_z-of_z}
 use Rattle.std.proofs.Math.Nat.{mul-le-mul}
 use Rattle.std.specs.Int.{int_wrap, w64}
-use Rattle.pdl_reduce.proofs.Matrix.{first_set, single_column}
+use Rattle.pdl_reduce.proofs.BlockProducts.{first_set, single_column}
 use Rattle.pdl_reduce.proofs.matrices.set_row.Goals as goal
 
 pub returns-then-sizes-depth-2 : goal.returns-then-sizes-depth-2

@@ -2,7 +2,7 @@
 use Rattle.std.proofs.Common.{rules, ◌*ℤ◌, ℕ, ℤ, pos, List, get_or, FitsSigned, ap₂, ◌∙◌}
 use Rattle.std.proofs.lemmas.Int.{to_z-of_z}
 use Rattle.std.specs.Int.{w64}
-use Rattle.pdl_reduce.proofs.Matrix.{wrapped_more}
+use Rattle.pdl_reduce.proofs.BlockProducts.{wrapped_more}
 use Rattle.pdl_reduce.proofs.matrices.sum_of_products.Goals as goal
 
 pub loop-k-preserved : goal.loop-k-preserved

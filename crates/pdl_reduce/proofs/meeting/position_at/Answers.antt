@@ -3,7 +3,7 @@ use Rattle.std.proofs.Common.{◌≡◌, pos}
 use Rattle.pdl_broadcast.specs.Walk.{argument_coordinates, argument_place}
 use Rattle.pdl_shape.specs.Shape.{IsWithin}
 use Rattle.pdl_shape.specs.Triple.{Triple, whole_triple}
-use Rattle.pdl_reduce.proofs.Meets.{said, place_is, place_below}
+use Rattle.pdl_reduce.proofs.BlockMeets.{said, place_is, place_below}
 use Rattle.pdl_reduce.proofs.meeting.position_at.Goals as goal
 
 pub returns-clause-position : goal.returns-clause-position

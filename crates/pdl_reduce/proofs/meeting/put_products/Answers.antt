@@ -8,9 +8,9 @@ use Rattle.pdl_shape.specs.Shape.{size_of}
 use Rattle.pdl_shape.specs.Stretched.{stretched_position}
 use Rattle.pdl_shape.specs.Triple.{whole_triple}
 use Rattle.pdl_reduce.specs.Blocks.{block_at, product_at, products_at}
-use Rattle.pdl_reduce.proofs.Meets.{products_more, block_read}
-use Rattle.pdl_reduce.proofs.Readiness.{kept}
-use Rattle.pdl_reduce.proofs.Results.{row_inside}
+use Rattle.pdl_reduce.proofs.BlockMeets.{products_more, block_read}
+use Rattle.pdl_reduce.proofs.BlockReadiness.{kept}
+use Rattle.pdl_reduce.proofs.ReductionResults.{row_inside}
 use Rattle.pdl_reduce.proofs.meeting.put_products.Goals as goal
 
 pub loop-q-init : goal.loop-q-init

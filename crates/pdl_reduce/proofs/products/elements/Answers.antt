@@ -3,7 +3,7 @@ use Rattle.std.proofs.Common.{◌≡◌, ℕ, List, drop, ap, ap₂, ◌∙◌}
 use Rattle.std.specs.Prelude.{slice_index_or}
 use Rattle.pdl_buf.specs.Made.{array_of}
 use Rattle.pdl_reduce.specs.Blocks.{core_count}
-use Rattle.pdl_reduce.proofs.Readiness.{Prepared, elements_for, if_ok_as, joins_for, kept, joins_ok, prepared_by, ready_for}
+use Rattle.pdl_reduce.proofs.BlockReadiness.{Prepared, elements_for, if_ok_as, joins_for, kept, joins_ok, prepared_by, ready_for}
 use Rattle.pdl_reduce.proofs.products.elements.Goals as goal
 
 pub broadcast_dims-joined-requires : goal.broadcast_dims-joined-requires

@@ -9,7 +9,7 @@ use Rattle.pdl_sig.specs.declared.Resolved.{Resolved}
 use Rattle.pdl_numbers.specs.Typed.{TypedElements}
 use Rattle.pdl_buf.specs.Made.{array_of}
 use Rattle.pdl_reduce.specs.Pairings.{paired_dims, paired_element}
-use Rattle.pdl_reduce.proofs.Resolved.{three_shapes}
+use Rattle.pdl_reduce.proofs.PairingResolved.{three_shapes}
 use Rattle.pdl_reduce.proofs.products.pair.Goals as goal
 
 pub output_dims-requires : goal.output_dims-requires

@@ -6,7 +6,7 @@ use Rattle.pdl_elem.specs.declared.Ty.{Ty}
 use Rattle.pdl_elem.specs.Types.{InRange}
 use Rattle.pdl_shape.specs.Shape.{IsDims, size_of}
 use Rattle.pdl_reduce.specs.Reductions.{lists, reduced_dims, reduced_row, reduced_type, width}
-use Rattle.pdl_reduce.proofs.Results.{size_split, result_length}
+use Rattle.pdl_reduce.proofs.ReductionResults.{size_split, result_length}
 use Rattle.pdl_reduce.proofs.reducing.reduce.Goals as goal
 
 pub reduced_window-requires-clause-whole : goal.reduced_window-requires-clause-whole

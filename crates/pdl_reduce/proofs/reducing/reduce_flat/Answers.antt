@@ -6,7 +6,7 @@ use Rattle.pdl_elem.specs.declared.Ty.{Ty}
 use Rattle.pdl_elem.specs.Types.{InRange}
 use Rattle.pdl_shape.specs.Shape.{size_of}
 use Rattle.pdl_reduce.specs.Reductions.{lists, reduced_row, reduced_type}
-use Rattle.pdl_reduce.proofs.Results.{result_length}
+use Rattle.pdl_reduce.proofs.ReductionResults.{result_length}
 use Rattle.pdl_reduce.proofs.reducing.reduce_flat.Goals as goal
 
 pub returns-clause-made : goal.returns-clause-made

@@ -1,7 +1,7 @@
 -- One list more.
 use Rattle.std.proofs.Common.{◌∙◌}
 use Rattle.pdl_reduce.specs.Reductions.{reduced_row}
-use Rattle.pdl_reduce.proofs.Results.{made_more}
+use Rattle.pdl_reduce.proofs.ReductionResults.{made_more}
 use Rattle.pdl_reduce.proofs.reducing.reduced_lists.Goals as goal
 
 pub loop-i-preserved : goal.loop-i-preserved

@@ -5,8 +5,8 @@ use Rattle.pdl_numbers.specs.Typed.{TypedElements}
 use Rattle.pdl_reduce.specs.declared.Reduction.{Reduction}
 use Rattle.pdl_reduce.specs.declared.Reduction.TheVariants.{Sumover, Prodover, Maximum, Minimum}
 use Rattle.pdl_reduce.specs.Reductions.{is_extreme, lists, reduced_row, reduced_type}
-use Rattle.pdl_reduce.proofs.Across.{sums_across, products_across, greatest_across, least_across}
-use Rattle.pdl_reduce.proofs.Readiness.{if_ok_as, kept}
+use Rattle.pdl_reduce.proofs.AcrossLemmas.{sums_across, products_across, greatest_across, least_across}
+use Rattle.pdl_reduce.proofs.BlockReadiness.{if_ok_as, kept}
 use Rattle.pdl_reduce.proofs.reducing.reduced_window.Goals as goal
 
 pub returns-in-Sumover : goal.returns-in-Sumover

@@ -9,7 +9,7 @@ use Rattle.pdl_reduce.specs.declared.Reduction.{Reduction}
 use Rattle.pdl_reduce.specs.declared.Reduction.TheVariants.{Sumover, Prodover, Maximum, Minimum, MaximumInd, MinimumInd}
 use Rattle.pdl_reduce.specs.Reductions.{reduced_row, reduced_type, sum_type}
 use Rattle.pdl_reduce.specs.Folds.{total, product, at_prefixes}
-use Rattle.pdl_reduce.proofs.Numbers.{added_as, adding, multiplying, prefixes_wrapped, wrapped_sum, wrapped_product}
+use Rattle.pdl_reduce.proofs.FoldNumbers.{added_as, adding, multiplying, prefixes_wrapped, wrapped_sum, wrapped_product}
 use Rattle.pdl_reduce.proofs.rows.add_row.Goals as goal
 
 -- a number of the type of one reduction

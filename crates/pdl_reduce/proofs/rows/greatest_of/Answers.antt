@@ -4,7 +4,7 @@ use Rattle.std.proofs.lemmas.Int.{to_z-of_z}
 use Rattle.std.proofs.lemmas.List.{length-take-le, length-drop}
 use Rattle.std.specs.Int.{w64, int_max}
 use Rattle.pdl_elem.specs.Types.{InRange}
-use Rattle.pdl_reduce.proofs.Numbers.{greatest_is, greatest_in, first_of}
+use Rattle.pdl_reduce.proofs.FoldNumbers.{greatest_is, greatest_in, first_of}
 use Rattle.pdl_reduce.proofs.rows.greatest_of.Goals as goal
 
 pub returns-clause-value : goal.returns-clause-value

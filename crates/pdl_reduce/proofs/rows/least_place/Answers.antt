@@ -4,8 +4,8 @@ use Rattle.std.proofs.lemmas.Int.{to_z-of_z}
 use Rattle.std.proofs.lemmas.List.{length-take-le, length-drop}
 use Rattle.std.specs.Int.{w64}
 use Rattle.pdl_reduce.specs.Folds.{first_place}
-use Rattle.pdl_reduce.proofs.Extremes.{least_picks}
-use Rattle.pdl_reduce.proofs.Numbers.{least_is}
+use Rattle.pdl_reduce.proofs.FoldExtremes.{least_picks}
+use Rattle.pdl_reduce.proofs.FoldNumbers.{least_is}
 use Rattle.pdl_reduce.proofs.rows.least_place.Goals as goal
 
 pub picked_place-requires-clause-picks : goal.picked_place-requires-clause-picks

@@ -6,8 +6,8 @@ use Rattle.std.specs.Int.{w64}
 use Rattle.pdl_elem.specs.declared.Ty.TheVariants.{Long}
 use Rattle.pdl_elem.specs.Types.{InRange}
 use Rattle.pdl_reduce.specs.Folds.{first_place}
-use Rattle.pdl_reduce.proofs.Extremes.{picked_behind}
-use Rattle.pdl_reduce.proofs.Numbers.{place_in, first_of}
+use Rattle.pdl_reduce.proofs.FoldExtremes.{picked_behind}
+use Rattle.pdl_reduce.proofs.FoldNumbers.{place_in, first_of}
 use Rattle.pdl_reduce.proofs.rows.picked_place.Goals as goal
 
 pub returns-clause-value : goal.returns-clause-value

@@ -5,7 +5,7 @@ use Rattle.std.specs.Int.{w64, w128}
 use Rattle.pdl_elem.specs.declared.Ty.{Ty}
 use Rattle.pdl_elem.specs.Numbers.{wrapped}
 use Rattle.pdl_reduce.specs.Reductions.{sum_type}
-use Rattle.pdl_reduce.proofs.Numbers.{multiplying, wrapped_product}
+use Rattle.pdl_reduce.proofs.FoldNumbers.{multiplying, wrapped_product}
 use Rattle.pdl_reduce.proofs.rows.product_of.Goals as goal
 
 pub returns-clause-value : goal.returns-clause-value

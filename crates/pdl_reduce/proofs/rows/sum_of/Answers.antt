@@ -5,7 +5,7 @@ use Rattle.std.specs.Int.{int_wrap, w64, w128}
 use Rattle.pdl_elem.specs.Numbers.{wrapped}
 use Rattle.pdl_reduce.specs.Folds.{total}
 use Rattle.pdl_reduce.specs.Reductions.{sum_type}
-use Rattle.pdl_reduce.proofs.Numbers.{adding, wrapped_sum}
+use Rattle.pdl_reduce.proofs.FoldNumbers.{adding, wrapped_sum}
 use Rattle.pdl_reduce.proofs.rows.sum_of.Goals as goal
 
 pub returns-in-None-clause-value : goal.returns-in-None-clause-value

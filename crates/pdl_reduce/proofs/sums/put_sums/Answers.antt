@@ -5,8 +5,8 @@ use Rattle.pdl_elem.specs.Numbers.{wrapped}
 use Rattle.pdl_numbers.specs.Typed.{TypedElements}
 use Rattle.pdl_shape.specs.Shape.{size_of}
 use Rattle.pdl_reduce.specs.Blocks.{nth_block, products_at, sum_at}
-use Rattle.pdl_reduce.proofs.Matrix.{range_more}
-use Rattle.pdl_reduce.proofs.ShortRows.{sum_is}
+use Rattle.pdl_reduce.proofs.BlockProducts.{range_more}
+use Rattle.pdl_reduce.proofs.BlockShortRows.{sum_is}
 use Rattle.pdl_reduce.proofs.sums.put_sums.Goals as goal
 
 pub places_left-few-requires-clause-most : goal.places_left-few-requires-clause-most

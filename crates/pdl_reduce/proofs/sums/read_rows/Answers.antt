@@ -4,8 +4,8 @@ use Rattle.std.proofs.lemmas.List.{length-take-le}
 use Rattle.std.proofs.Math.Nat.{add-mul, div-one, mod-lt, mul-le-mul}
 use Rattle.pdl_elem.specs.Numbers.{wrapped}
 use Rattle.pdl_reduce.specs.Blocks.{nth_block}
-use Rattle.pdl_reduce.proofs.Results.{row_inside}
-use Rattle.pdl_reduce.proofs.ShortRows.{next_row, same_row, same_turn}
+use Rattle.pdl_reduce.proofs.ReductionResults.{row_inside}
+use Rattle.pdl_reduce.proofs.BlockShortRows.{next_row, same_row, same_turn}
 use Rattle.pdl_reduce.proofs.sums.read_rows.Goals as goal
 
 -- where each place has the next row, a place's row is what is left of it

@@ -3,7 +3,7 @@ use Rattle.std.proofs.Common.{rules, ◌≡◌, ℤ, List, map, All, ap, subst, 
 use Rattle.pdl_elem.specs.declared.Ty.{Ty}
 use Rattle.pdl_elem.specs.Numbers.{wrapped}
 use Rattle.pdl_elem.specs.Types.{InRange}
-use Rattle.pdl_reduce.proofs.Numbers.{wrapped_same}
+use Rattle.pdl_reduce.proofs.FoldNumbers.{wrapped_same}
 use Rattle.pdl_reduce.proofs.sums.read_wrapped.Goals as goal
 
 pub returns-else-ne : goal.returns-else-ne

@@ -2,7 +2,7 @@
 use Rattle.std.proofs.Common.{◌≡◌, ℕ, ◌+◌, ◌-◌, ◌*◌, ℤ, pos, List, length, take, drop, get_or, arith, ap₂, ◌∙◌, length-take, length-drop}
 use Rattle.std.specs.Int.{int_wrap, w64}
 use Rattle.pdl_reduce.specs.Blocks.{sum_at}
-use Rattle.pdl_reduce.proofs.ShortRows.{put_length, sums_more}
+use Rattle.pdl_reduce.proofs.BlockShortRows.{put_length, sums_more}
 use Rattle.pdl_reduce.proofs.sums.set_sums.Goals as goal
 
 pub loop-j-preserved : goal.loop-j-preserved

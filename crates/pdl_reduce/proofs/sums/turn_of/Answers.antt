@@ -3,7 +3,7 @@ use Rattle.std.proofs.Common.{◌≡◌, ℕ, List, drop, ap, subst, sym, ◌∙
 use Rattle.std.specs.Prelude.{slice_index_or}
 use Rattle.std.proofs.lemmas.Bool.Decides.{Decides-eqb}
 use Rattle.std.proofs.lemmas.Slice.Eq.{starts_is}
-use Rattle.pdl_reduce.proofs.ShortRows.{AreFirst, first_turn, later_turn}
+use Rattle.pdl_reduce.proofs.BlockShortRows.{AreFirst, first_turn, later_turn}
 use Rattle.pdl_reduce.proofs.sums.turn_of.Goals as goal
 
 pub returns-then-starts_with : goal.returns-then-starts_with

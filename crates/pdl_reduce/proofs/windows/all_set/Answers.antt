@@ -3,7 +3,7 @@ use Rattle.std.proofs.Common.{◌≡◌, ℕ, ℤ, List, take, drop, length, ari
 use Rattle.std.proofs.lemmas.List.{length-take-le}
 use Rattle.std.specs.List.{list_all}
 use Rattle.pdl_reduce.specs.Reductions.{is_set}
-use Rattle.pdl_reduce.proofs.Blocks.{all_more, not_all}
+use Rattle.pdl_reduce.proofs.FoldBlocks.{all_more, not_all}
 use Rattle.pdl_reduce.proofs.windows.all_set.Goals as goal
 
 pub returns-then-not-all_in_part : goal.returns-then-not-all_in_part

@@ -3,7 +3,7 @@ use Rattle.std.proofs.Common.{◌≡◌, ℕ, ℤ, List, take, drop, length, ari
 use Rattle.std.proofs.lemmas.List.{length-take-le}
 use Rattle.std.specs.List.{list_any}
 use Rattle.pdl_reduce.specs.Reductions.{is_set}
-use Rattle.pdl_reduce.proofs.Blocks.{any_more, some_any}
+use Rattle.pdl_reduce.proofs.FoldBlocks.{any_more, some_any}
 use Rattle.pdl_reduce.proofs.windows.any_set.Goals as goal
 
 pub returns-then-any_in_part : goal.returns-then-any_in_part

@@ -6,7 +6,7 @@ use Rattle.std.specs.Int.{w64}
 use Rattle.std.specs.Ordering.{int_eq}
 use Rattle.std.specs.Prelude.{position}
 use Rattle.pdl_reduce.specs.Folds.{first_place}
-use Rattle.pdl_reduce.proofs.Blocks.{none_next, place_found, place_none}
+use Rattle.pdl_reduce.proofs.FoldBlocks.{none_next, place_found, place_none}
 use Rattle.pdl_reduce.proofs.windows.find_in_window.Goals as goal
 
 pub overflow_add-first : goal.overflow_add-first

@@ -4,7 +4,7 @@ use Rattle.std.proofs.lemmas.Int.{of_z-to_z, to_z-of_z}
 use Rattle.std.proofs.lemmas.List.{length-take-le}
 use Rattle.std.specs.Int.{w64}
 use Rattle.pdl_elem.specs.Types.{InRange}
-use Rattle.pdl_reduce.proofs.Blocks.{fold_next, all_next}
+use Rattle.pdl_reduce.proofs.FoldBlocks.{fold_next, all_next}
 use Rattle.pdl_reduce.proofs.windows.fold_changes.Goals as goal
 use Rattle.pdl_reduce.proofs.windows.fold_changes.Goals.{then-next-so_far, else-next-so_far}
 

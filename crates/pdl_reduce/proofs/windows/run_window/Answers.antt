@@ -5,8 +5,8 @@ use Rattle.std.proofs.lemmas.List.{length-take-le}
 use Rattle.std.specs.Int.{w64}
 use Rattle.pdl_elem.specs.Numbers.{wrapped}
 use Rattle.pdl_reduce.specs.Folds.{at_prefixes}
-use Rattle.pdl_reduce.proofs.Running.{running, running_is}
-use Rattle.pdl_reduce.proofs.Blocks.{fold_next, made_next}
+use Rattle.pdl_reduce.proofs.FoldRunning.{running, running_is}
+use Rattle.pdl_reduce.proofs.FoldBlocks.{fold_next, made_next}
 use Rattle.pdl_reduce.proofs.windows.run_window.Goals as goal
 
 pub overflow_add-position : goal.overflow_add-position

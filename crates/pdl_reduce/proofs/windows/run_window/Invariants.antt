@@ -1,7 +1,7 @@
 -- What the elements before the next block come to, and the list with what they come to at each place.
 use Rattle.std.proofs.Common.{◌≡◌, ◌≤◌, ◌-◌, ◌++◌, fold, map, take, drop}
 use Rattle.pdl_elem.specs.Numbers.{wrapped}
-use Rattle.pdl_reduce.proofs.Running.{running}
+use Rattle.pdl_reduce.proofs.FoldRunning.{running}
 use Rattle.pdl_reduce.proofs.windows.run_window.Given as goal
 
 abbrev pub invariant-loop-done : goal.invariant-loop-done

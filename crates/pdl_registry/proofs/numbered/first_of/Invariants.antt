@@ -1,5 +1,5 @@
 use Rattle.std.proofs.Common.{◌≡◌, ◌≤◌, ◌-◌, drop, length}
-use Rattle.pdl_registry.proofs.Numbers.{first_of}
+use Rattle.pdl_registry.proofs.NumberedLemmas.{first_of}
 use Rattle.pdl_registry.proofs.numbered.first_of.Given as goal
 
 -- the first of what is left is the answer

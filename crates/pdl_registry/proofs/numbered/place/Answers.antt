@@ -1,6 +1,6 @@
 use Rattle.std.proofs.Common.{arith}
 use Rattle.pdl_registry.proofs.numbered.place.Goals as goal
-use Rattle.pdl_registry.proofs.Numbers.{none_empty, none_low}
+use Rattle.pdl_registry.proofs.NumberedLemmas.{none_empty, none_low}
 use Rattle.pdl_registry.proofs.numbered.place.Goals.{then-at-eq0-via-then-at-eq0, then-at-eq0-via-else-at-eq0+then-id-entries}
 
 -- nothing stands there, or all stand above

@@ -5,7 +5,7 @@ use Rattle.std.specs.List.{remove}
 use Rattle.std.specs.Ordering.{flip_args, nat_cmp}
 use Rattle.pdl_registry.specs.Numbered.{most_newest}
 use Rattle.pdl_registry.proofs.numbered.settle.Goals as goal
-use Rattle.pdl_registry.proofs.Numbers.{first_moved}
+use Rattle.pdl_registry.proofs.NumberedLemmas.{first_moved}
 
 pub returns-clause-same : goal.returns-clause-same
 returns-clause-same g c =

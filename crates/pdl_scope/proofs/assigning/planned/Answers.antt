@@ -9,9 +9,9 @@ use Rattle.pdl_scope.specs.FlowCosts.{followed_steps}
 use Rattle.pdl_scope.specs.Plans.{listed, planned, roots_in, values_in}
 use Rattle.pdl_scope.specs.Scope.{arrays_of}
 use Rattle.pdl_scope.specs.declared.following.Change.{Change}
-use Rattle.pdl_scope.proofs.FlowCosts.{kept_and_followed, kept_and_followed_and, moved_few}
-use Rattle.pdl_scope.proofs.Flowed.{written_in}
-use Rattle.pdl_scope.proofs.FlowsStay.{reads_live}
+use Rattle.pdl_scope.proofs.FlowCostLemmas.{kept_and_followed, kept_and_followed_and, moved_few}
+use Rattle.pdl_scope.proofs.ScopeFlowed.{written_in}
+use Rattle.pdl_scope.proofs.FlowingStays.{reads_live}
 use Rattle.pdl_scope.proofs.assigning.planned.Goals as goal
 
 pub lookups-many-requires-clause-read : goal.lookups-many-requires-clause-read

@@ -1,7 +1,7 @@
 use Rattle.std.proofs.Common.{map, refl, ap, sym, ◌∙◌}
 use Rattle.pdl_kernel.specs.Runs.{Run}
 use Rattle.pdl_scope.specs.Scope.{made_in, shape_in}
-use Rattle.pdl_scope.proofs.KernelCalls.{call_done, call_faulted}
+use Rattle.pdl_scope.proofs.ScopeKernels.{call_done, call_faulted}
 use Rattle.pdl_scope.proofs.calling.called_on.Goals as goal
 
 pub begin-requires : goal.begin-requires

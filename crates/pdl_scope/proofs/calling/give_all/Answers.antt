@@ -1,4 +1,4 @@
-use Rattle.pdl_scope.proofs.KernelCalls.{next_is, given_more}
+use Rattle.pdl_scope.proofs.ScopeKernels.{next_is, given_more}
 use Rattle.pdl_scope.proofs.calling.give_all.Goals as goal
 
 pub give-requires : goal.give-requires

@@ -2,7 +2,7 @@ use Rattle.std.proofs.Common.{map, Vec, Global}
 use Rattle.pdl_buf.specs.declared.made.Made.{Made}
 use Rattle.pdl_machine.specs.Kernels.{outputs_by}
 use Rattle.pdl_scope.specs.Scope.{made_in, shape_in}
-use Rattle.pdl_scope.proofs.KernelCalls.{all_given, call_refused, can_run_so, handed, live_again, resolves_to, shapes_again}
+use Rattle.pdl_scope.proofs.ScopeKernels.{all_given, call_refused, can_run_so, handed, live_again, resolves_to, shapes_again}
 use Rattle.pdl_scope.proofs.calling.kernel_outputs.Goals as goal
 
 pub called_on-requires-clause-live : goal.called_on-requires-clause-live

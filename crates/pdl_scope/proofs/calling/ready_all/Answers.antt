@@ -1,6 +1,6 @@
 use Rattle.std.proofs.Common.{◌+◌}
-use Rattle.pdl_scope.proofs.Costs.{never_dearer, read_first, read_more}
-use Rattle.pdl_scope.proofs.KernelCalls.{ready_all, ready_more}
+use Rattle.pdl_scope.proofs.CostLemmas.{never_dearer, read_first, read_more}
+use Rattle.pdl_scope.proofs.ScopeKernels.{ready_all, ready_more}
 use Rattle.pdl_scope.proofs.calling.ready_all.Goals as goal
 
 pub loop-id-preserved : goal.loop-id-preserved

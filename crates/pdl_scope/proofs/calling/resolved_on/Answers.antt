@@ -1,5 +1,5 @@
 use Rattle.std.proofs.Common.{◌∙◌}
-use Rattle.pdl_scope.proofs.KernelCalls.{shapes_refused}
+use Rattle.pdl_scope.proofs.ScopeKernels.{shapes_refused}
 use Rattle.pdl_scope.proofs.calling.resolved_on.Goals as goal
 
 pub returns : goal.returns

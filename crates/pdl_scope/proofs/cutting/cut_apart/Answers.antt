@@ -7,10 +7,10 @@ use Rattle.pdl_shape.specs.Shape.{size_of}
 use Rattle.pdl_world.specs.World.{World, dims_in}
 use Rattle.pdl_engine.specs.State.{State as Engine, ready_steps}
 use Rattle.pdl_scope.specs.Scope.{arrays_of}
-use Rattle.pdl_scope.proofs.FlowsStay.{CutLaws, flows_severed}
-use Rattle.pdl_scope.proofs.Unmoved.{unchanged_held}
-use Rattle.pdl_scope.proofs.Cuts.{held_after, noted_held}
-use Rattle.pdl_scope.proofs.Held.{held_by}
+use Rattle.pdl_scope.proofs.FlowingStays.{CutLaws, flows_severed}
+use Rattle.pdl_scope.proofs.CostUnmoved.{unchanged_held}
+use Rattle.pdl_scope.proofs.ScopeCuts.{held_after, noted_held}
+use Rattle.pdl_scope.proofs.HoldingLemmas.{held_by}
 use Rattle.pdl_scope.proofs.cutting.cut_apart.Goals as goal
 
 pub returns-clause-held : goal.returns-clause-held

@@ -7,10 +7,10 @@ use Rattle.pdl_shape.specs.Shape.{size_of}
 use Rattle.pdl_engine.specs.State.{State as Engine, ready_steps}
 use Rattle.pdl_machine.specs.Cuts.{is_read}
 use Rattle.pdl_scope.specs.Scope.{arrays_of}
-use Rattle.pdl_scope.proofs.FlowsStay.{flows_reshaped}
-use Rattle.pdl_scope.proofs.Unmoved.{unbroken}
-use Rattle.pdl_scope.proofs.Cuts.{held_reshaped, noted_held}
-use Rattle.pdl_scope.proofs.Held.{held_by}
+use Rattle.pdl_scope.proofs.FlowingStays.{flows_reshaped}
+use Rattle.pdl_scope.proofs.CostUnmoved.{unbroken}
+use Rattle.pdl_scope.proofs.ScopeCuts.{held_reshaped, noted_held}
+use Rattle.pdl_scope.proofs.HoldingLemmas.{held_by}
 use Rattle.pdl_scope.proofs.cutting.laid_anew.Goals as goal
 
 pub returns-clause-held : goal.returns-clause-held

@@ -1,7 +1,7 @@
 use Rattle.std.proofs.Common.{◌≡◌, ℕ, List, length, take, Some, None, refl, sym, ap, ◌∙◌, subst}
 use Rattle.std.specs.Prelude.{slice_get}
 use Rattle.pdl_engine.specs.Looks.{array_numbers}
-use Rattle.pdl_scope.proofs.Numbers.{Laws, fewer_left, first_is, length_more, listed_live, listed_more, next_number, taken_all}
+use Rattle.pdl_scope.proofs.DumpingNumbers.{Laws, fewer_left, first_is, length_more, listed_live, listed_more, next_number, taken_all}
 use Rattle.pdl_scope.proofs.dumping.all_numbers.Goals as goal
 
 pub loop-next-init : goal.loop-next-init

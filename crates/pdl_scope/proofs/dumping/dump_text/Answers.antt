@@ -2,8 +2,8 @@ use Rattle.std.proofs.Common.{ℕ, List, Vec, Global, Ok, Err, refl, sym, subst,
 use Rattle.std.specs.List.Sorted.{IsStrictlyIncreasing}
 use Rattle.pdl_machine.specs.Dumps.{lines_of, text_within}
 use Rattle.pdl_scope.specs.Dumping.{of_image, name_lines, WritesLines}
-use Rattle.pdl_scope.proofs.DumpLemmas.{answers_fault, arrays_refused, begun, dump_written, ends_refused, kernels_refused, names_refused, stem_for}
-use Rattle.pdl_scope.proofs.Places.{numbers_increase}
+use Rattle.pdl_scope.proofs.DumpingLemmas.{answers_fault, arrays_refused, begun, dump_written, ends_refused, kernels_refused, names_refused, stem_for}
+use Rattle.pdl_scope.proofs.DumpingPlaces.{numbers_increase}
 use Rattle.pdl_scope.proofs.dumping.dump_text.Goals as goal
 
 pub write_names-requires-clause-ids : goal.write_names-requires-clause-ids

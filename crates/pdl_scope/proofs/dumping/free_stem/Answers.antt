@@ -1,4 +1,4 @@
-use Rattle.pdl_scope.proofs.DumpLemmas.{stem_seen}
+use Rattle.pdl_scope.proofs.DumpingLemmas.{stem_seen}
 use Rattle.pdl_scope.proofs.dumping.free_stem.Goals as goal
 
 pub loop-index-preserved : goal.loop-index-preserved

@@ -1,5 +1,5 @@
 use Rattle.std.proofs.Common.{Ok, Err}
-use Rattle.pdl_scope.proofs.Places.{place_searched}
+use Rattle.pdl_scope.proofs.DumpingPlaces.{place_searched}
 use Rattle.pdl_scope.proofs.dumping.place_of.Goals as goal
 
 pub returns-in-Ok : goal.returns-in-Ok

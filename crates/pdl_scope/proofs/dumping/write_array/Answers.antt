@@ -1,10 +1,10 @@
 use Rattle.std.proofs.Common.{get_or, sym, ◌∙◌, subst, arith}
 use Rattle.std.specs.List.Sorted.{IsStrictlyIncreasing}
 use Rattle.std.proofs.lemmas.Option.{slice_get-get_or}
-use Rattle.pdl_scope.proofs.DumpArrays.{has_trans, live_at, wrote_root, wrote_view}
-use Rattle.pdl_scope.proofs.DumpCosts.{root_read}
-use Rattle.pdl_scope.proofs.Numbers.{Laws, laws_of}
-use Rattle.pdl_scope.proofs.Places.{numbers_increase}
+use Rattle.pdl_scope.proofs.DumpingArrays.{has_trans, live_at, wrote_root, wrote_view}
+use Rattle.pdl_scope.proofs.DumpingCosts.{root_read}
+use Rattle.pdl_scope.proofs.DumpingNumbers.{Laws, laws_of}
+use Rattle.pdl_scope.proofs.DumpingPlaces.{numbers_increase}
 use Rattle.pdl_scope.proofs.dumping.write_array.Goals as goal
 
 pub parent-requires : goal.parent-requires

@@ -1,8 +1,8 @@
 use Rattle.std.proofs.Common.{◌+◌, refl, sym, ◌∙◌, arith}
-use Rattle.pdl_scope.proofs.Costs.{never_dearer}
-use Rattle.pdl_scope.proofs.DumpArrays.{all_written, next_refused, next_written, none_yet}
-use Rattle.pdl_scope.proofs.DumpCosts.{dumped_first, dumped_more}
-use Rattle.pdl_scope.proofs.Numbers.{Laws, laws_of}
+use Rattle.pdl_scope.proofs.CostLemmas.{never_dearer}
+use Rattle.pdl_scope.proofs.DumpingArrays.{all_written, next_refused, next_written, none_yet}
+use Rattle.pdl_scope.proofs.DumpingCosts.{dumped_first, dumped_more}
+use Rattle.pdl_scope.proofs.DumpingNumbers.{Laws, laws_of}
 use Rattle.pdl_scope.proofs.dumping.write_arrays.Goals as goal
 
 pub loop-at-init : goal.loop-at-init

@@ -3,7 +3,7 @@ use Rattle.pdl_image.specs.Image.{Image}
 use Rattle.pdl_image.specs.Lines.{Line, same_line}
 use Rattle.pdl_image.specs.Stems.{name_at}
 use Rattle.pdl_scope.specs.Dumping.{place_from}
-use Rattle.pdl_scope.proofs.DumpLemmas.{entry_refused, entry_written}
+use Rattle.pdl_scope.proofs.DumpingLemmas.{entry_refused, entry_written}
 use Rattle.pdl_scope.proofs.dumping.write_names.Goals as goal
 
 abbrev line_of : (stem ids : List ℕ) → List ℕ × ℕ → Line

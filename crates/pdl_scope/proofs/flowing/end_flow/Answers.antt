@@ -4,7 +4,7 @@ use Rattle.std.proofs.lemmas.Option.{slice_get_within}
 use Rattle.pdl_flow.specs.Formula.{arrays_in}
 use Rattle.pdl_machine.specs.Flows.{Flow, Flows, without_flow}
 use Rattle.pdl_scope.specs.Flowing.{HasRootAt, read_by}
-use Rattle.pdl_scope.proofs.Ended.{ended_at, none_ended, same_place}
+use Rattle.pdl_scope.proofs.FlowingEnds.{ended_at, none_ended, same_place}
 use Rattle.pdl_scope.proofs.flowing.end_flow.Goals as goal
 
 pub note_all-requires : goal.note_all-requires

@@ -4,8 +4,8 @@ use Rattle.pdl_world.specs.Swept.{is_listed}
 use Rattle.pdl_engine.specs.Held.{count_at, holders, one_more_at}
 use Rattle.pdl_engine.specs.State.{State as Engine}
 use Rattle.pdl_scope.specs.Scope.{times}
-use Rattle.pdl_scope.proofs.Begun.{live_at, held_once_more, times_within}
-use Rattle.pdl_scope.proofs.Held.{some_live}
+use Rattle.pdl_scope.proofs.ScopeFlows.{live_at, held_once_more, times_within}
+use Rattle.pdl_scope.proofs.HoldingLemmas.{some_live}
 use Rattle.pdl_scope.proofs.flowing.hold_all.Goals as goal
 
 pub hold-requires-clause-live : goal.hold-requires-clause-live

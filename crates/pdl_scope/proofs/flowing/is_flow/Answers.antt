@@ -1,5 +1,5 @@
 use Rattle.std.proofs.Common.{◌∙◌}
-use Rattle.pdl_scope.proofs.Halves.{place_tells}
+use Rattle.pdl_scope.proofs.FlowingHalves.{place_tells}
 use Rattle.pdl_scope.proofs.flowing.is_flow.Goals as goal
 
 pub returns : goal.returns

@@ -1,6 +1,6 @@
 use Rattle.std.proofs.Common.{ℕ, List, sym, subst}
 use Rattle.pdl_machine.specs.State.{AreLive}
-use Rattle.pdl_scope.proofs.Begun.{reads_at}
+use Rattle.pdl_scope.proofs.ScopeFlows.{reads_at}
 use Rattle.pdl_scope.proofs.flowing.is_read.Goals as goal
 
 pub reach-requires : goal.reach-requires

@@ -3,9 +3,9 @@ use Rattle.pdl_machine.specs.Flows.{Flows, all_read}
 use Rattle.pdl_scope.specs.Flowing.{RootsRise, have_flow}
 use Rattle.pdl_scope.specs.LetGo.{HasFlows}
 use Rattle.pdl_scope.specs.Scope.{arrays_of}
-use Rattle.pdl_scope.proofs.FlowsStay.{roots_rise}
-use Rattle.pdl_scope.proofs.Leaving.{all_stay, leaving_live}
-use Rattle.pdl_scope.proofs.Needed.{Laws}
+use Rattle.pdl_scope.proofs.FlowingStays.{roots_rise}
+use Rattle.pdl_scope.proofs.LetGoLeaving.{all_stay, leaving_live}
+use Rattle.pdl_scope.proofs.LetGoNeeds.{Laws}
 use Rattle.pdl_scope.proofs.flowing.let_all_go.Goals as goal
 
 pub have_flow-may_go-requires-clause-rising : goal.have_flow-may_go-requires-clause-rising

@@ -5,8 +5,8 @@ use Rattle.pdl_world.specs.World.{look}
 use Rattle.pdl_machine.specs.Flows.{Flow, Flows, all_read}
 use Rattle.pdl_scope.specs.Holding.{AreHeld, LetsGo}
 use Rattle.pdl_scope.specs.LetGo.{without_at}
-use Rattle.pdl_scope.proofs.Ended.{held_out, read_at, same_place}
-use Rattle.pdl_scope.proofs.Held.{lets_go_refl}
+use Rattle.pdl_scope.proofs.FlowingEnds.{held_out, read_at, same_place}
+use Rattle.pdl_scope.proofs.HoldingLemmas.{lets_go_refl}
 use Rattle.pdl_scope.proofs.flowing.let_flow_go.Goals as goal
 
 pub returns-then-is_live-clause-flows : goal.returns-then-is_live-clause-flows

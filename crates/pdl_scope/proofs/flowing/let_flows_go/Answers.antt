@@ -1,5 +1,5 @@
 use Rattle.std.proofs.Common.{◌≡◌, ◌+◌, ◌-◌, ◌≤◌, ◌<◌, ℕ, length, subst, arith}
-use Rattle.pdl_scope.proofs.Needed.{AreAsked, Laws, all_asked, asked_more, asked_within, none_asked}
+use Rattle.pdl_scope.proofs.LetGoNeeds.{AreAsked, Laws, all_asked, asked_more, asked_within, none_asked}
 use Rattle.pdl_scope.proofs.flowing.let_flows_go.Goals as goal
 
 pub going-init : goal.going-init

@@ -1,7 +1,7 @@
 use Rattle.std.proofs.Common.{ℕ, List, ◌≤◌, length}
 use Rattle.pdl_engine.specs.State.{State as Engine}
 use Rattle.pdl_scope.specs.LetGo.{GoesOn, HasFlows}
-use Rattle.pdl_scope.proofs.Needed.{AreAsked}
+use Rattle.pdl_scope.proofs.LetGoNeeds.{AreAsked}
 use Rattle.pdl_scope.proofs.flowing.let_flows_go.Given as goal
 
 -- the flows from this place on were asked

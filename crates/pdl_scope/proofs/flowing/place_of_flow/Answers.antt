@@ -2,7 +2,7 @@ use Rattle.std.proofs.Common.{◌≡◌, false, rules}
 use Rattle.std.proofs.lemmas.List.Sorted.{answers_always}
 use Rattle.pdl_machine.specs.Flows.{is_flow}
 use Rattle.pdl_scope.specs.Flowing.{HasRootAt}
-use Rattle.pdl_scope.proofs.Halves.{found_place, search_ends}
+use Rattle.pdl_scope.proofs.FlowingHalves.{found_place, search_ends}
 use Rattle.pdl_scope.proofs.flowing.place_of_flow.Goals as goal
 
 pub returns-clause-here : goal.returns-clause-here

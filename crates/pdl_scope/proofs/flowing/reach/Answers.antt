@@ -1,4 +1,4 @@
-use Rattle.pdl_scope.proofs.Begun.{live_at}
+use Rattle.pdl_scope.proofs.ScopeFlows.{live_at}
 use Rattle.pdl_scope.proofs.flowing.reach.Goals as goal
 
 pub reaches-requires : goal.reaches-requires

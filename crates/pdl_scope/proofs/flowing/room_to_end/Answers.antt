@@ -3,7 +3,7 @@ use Rattle.std.proofs.lemmas.Option.{slice_get_within}
 use Rattle.pdl_flow.specs.Formula.{arrays_in}
 use Rattle.pdl_machine.specs.Flows.{Flow}
 use Rattle.pdl_scope.specs.Flowing.{read_by}
-use Rattle.pdl_scope.proofs.Ended.{ended_at, none_ended, same_place}
+use Rattle.pdl_scope.proofs.FlowingEnds.{ended_at, none_ended, same_place}
 use Rattle.pdl_scope.proofs.flowing.room_to_end.Goals as goal
 
 pub returns-in-Some-clause-room : goal.returns-in-Some-clause-room

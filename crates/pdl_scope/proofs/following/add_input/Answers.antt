@@ -7,8 +7,8 @@ use Rattle.pdl_machine.specs.Arrays.{Arrays}
 use Rattle.pdl_scope.specs.FlowCosts.{input_steps}
 use Rattle.pdl_scope.specs.Plans.{AreShown, AreSingle, KeepInputs, input_at, met_by, planned}
 use Rattle.pdl_scope.specs.Scope.{arrays_of}
-use Rattle.pdl_scope.proofs.FlowCosts.{met_is, met_more}
-use Rattle.pdl_scope.proofs.Inputs.{input_there, inputs_kept, shown_more, single_more}
+use Rattle.pdl_scope.proofs.FlowCostLemmas.{met_is, met_more}
+use Rattle.pdl_scope.proofs.PlanInputs.{input_there, inputs_kept, shown_more, single_more}
 use Rattle.pdl_scope.proofs.following.add_input.Goals as goal
 
 pub returns-clause-shown : goal.returns-clause-shown

@@ -9,8 +9,8 @@ use Rattle.pdl_engine.specs.Reading.{IsWarm}
 use Rattle.pdl_engine.specs.State.{State as Engine}
 use Rattle.pdl_scope.specs.Plans.{AllCanAssign, AreApart, all_assigned, listed, roots_in, values_in}
 use Rattle.pdl_scope.specs.declared.following.Change.{Change}
-use Rattle.pdl_scope.proofs.Planned.{IsAfter, IsMadeFirst, all_after, made_next}
-use Rattle.pdl_scope.proofs.Plans.{apart_stays, root_stays}
+use Rattle.pdl_scope.proofs.PlanLemmas.{IsAfter, IsMadeFirst, all_after, made_next}
+use Rattle.pdl_scope.proofs.PlanAssignments.{apart_stays, root_stays}
 use Rattle.pdl_scope.proofs.following.assign_all.Goals as goal
 
 -- what is left before one is taken: itself, and then what is left after

@@ -3,7 +3,7 @@ use Rattle.std.proofs.Common.{◌≡◌, ◌+◌, ◌≤◌, ◌∷◌, ◌⊎�
 use Rattle.pdl_world.specs.Sound.{IsSound}
 use Rattle.pdl_scope.specs.Plans.{AllCanAssign, AreApart, all_assigned, values_in}
 use Rattle.pdl_scope.specs.declared.following.Change.{Change}
-use Rattle.pdl_scope.proofs.Planned.{IsMadeFirst}
+use Rattle.pdl_scope.proofs.PlanLemmas.{IsMadeFirst}
 use Rattle.pdl_scope.proofs.following.assign_all.Given as goal
 
 abbrev pub invariant-loop-change : goal.invariant-loop-change

@@ -14,12 +14,12 @@ use Rattle.pdl_machine.specs.State.{AreLive}
 use Rattle.pdl_scope.specs.FlowCosts.{input_steps, once}
 use Rattle.pdl_scope.specs.Plans.{all_assigned, planned}
 use Rattle.pdl_scope.specs.Scope.{arrays_of}
-use Rattle.pdl_scope.proofs.FlowCosts.{found_within}
-use Rattle.pdl_scope.proofs.Followers.{IsFormed, ShowAll, are_inputs, follows_by, formed, inputs_show, made_at, of_inputs, older_live, unrefused}
-use Rattle.pdl_scope.proofs.Foreseen.{rested}
-use Rattle.pdl_scope.proofs.Growing.{still_live}
-use Rattle.pdl_scope.proofs.Planned.{sound_after}
-use Rattle.pdl_scope.proofs.Plans.{live_after, looks_after}
+use Rattle.pdl_scope.proofs.FlowCostLemmas.{found_within}
+use Rattle.pdl_scope.proofs.FlowFollowers.{IsFormed, ShowAll, are_inputs, follows_by, formed, inputs_show, made_at, of_inputs, older_live, unrefused}
+use Rattle.pdl_scope.proofs.CostForeseen.{rested}
+use Rattle.pdl_scope.proofs.ScopeGrowing.{still_live}
+use Rattle.pdl_scope.proofs.PlanLemmas.{sound_after}
+use Rattle.pdl_scope.proofs.PlanAssignments.{live_after, looks_after}
 use Rattle.pdl_scope.proofs.following.elements_of_flow.Goals as goal
 
 pub inputs_planned-requires-clause-live : goal.inputs_planned-requires-clause-live

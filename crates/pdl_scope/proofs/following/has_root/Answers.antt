@@ -1,7 +1,7 @@
 use Rattle.std.proofs.Common.{◌≢◌, ℕ, Option, sym, subst}
 use Rattle.std.specs.Prelude.{IfSome}
 use Rattle.pdl_world.specs.Paths.{root_of}
-use Rattle.pdl_scope.proofs.Followers.{not_root}
+use Rattle.pdl_scope.proofs.FlowFollowers.{not_root}
 use Rattle.pdl_scope.proofs.following.has_root.Goals as goal
 
 pub returns-then-is_noted-clause-has : goal.returns-then-is_noted-clause-has

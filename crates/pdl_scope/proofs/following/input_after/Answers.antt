@@ -11,9 +11,9 @@ use Rattle.pdl_machine.specs.Arrays.{Arrays}
 use Rattle.pdl_scope.specs.FlowCosts.{input_steps}
 use Rattle.pdl_scope.specs.Plans.{input_at, listed, planned}
 use Rattle.pdl_scope.specs.Scope.{arrays_of}
-use Rattle.pdl_scope.proofs.FlowCosts.{input_taken, moved_once}
-use Rattle.pdl_scope.proofs.Growing.{readied_arrays}
-use Rattle.pdl_scope.proofs.Inputs.{after_made, input_of, input_shown, inputs_same, values_shown}
+use Rattle.pdl_scope.proofs.FlowCostLemmas.{input_taken, moved_once}
+use Rattle.pdl_scope.proofs.ScopeGrowing.{readied_arrays}
+use Rattle.pdl_scope.proofs.PlanInputs.{after_made, input_of, input_shown, inputs_same, values_shown}
 use Rattle.pdl_scope.proofs.following.input_after.Goals as goal
 
 pub returns-then-id-change-2-clause-input : goal.returns-then-id-change-2-clause-input

@@ -8,8 +8,8 @@ use Rattle.pdl_flow.specs.Inputs.{Given}
 use Rattle.pdl_world.specs.World.{World, dims_in, ty_in}
 use Rattle.pdl_scope.specs.Plans.{AreFor, listed}
 use Rattle.pdl_scope.specs.declared.following.Values.TheVariants.{Kept}
-use Rattle.pdl_scope.proofs.FlowCosts.{moved_once}
-use Rattle.pdl_scope.proofs.Inputs.{input_of, inputs_same}
+use Rattle.pdl_scope.proofs.FlowCostLemmas.{moved_once}
+use Rattle.pdl_scope.proofs.PlanInputs.{input_of, inputs_same}
 use Rattle.pdl_scope.proofs.following.input_of_values.Goals as goal
 
 pub returns-in-Kept-clause-input : goal.returns-in-Kept-clause-input

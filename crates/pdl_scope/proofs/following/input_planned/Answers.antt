@@ -9,8 +9,8 @@ use Rattle.pdl_machine.specs.Arrays.{Arrays}
 use Rattle.pdl_scope.specs.FlowCosts.{input_steps}
 use Rattle.pdl_scope.specs.Plans.{change_to, input_at, planned}
 use Rattle.pdl_scope.specs.Scope.{arrays_of}
-use Rattle.pdl_scope.proofs.Inputs.{input_found, input_kept}
-use Rattle.pdl_scope.proofs.Plans.{Laws, found_change}
+use Rattle.pdl_scope.proofs.PlanInputs.{input_found, input_kept}
+use Rattle.pdl_scope.proofs.PlanAssignments.{Laws, found_change}
 use Rattle.pdl_scope.proofs.following.input_planned.Goals as goal
 
 pub input_after-requires-clause-own : goal.input_after-requires-clause-own

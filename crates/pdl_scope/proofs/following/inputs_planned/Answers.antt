@@ -5,13 +5,13 @@ use Rattle.pdl_machine.specs.Arrays.{Arrays}
 use Rattle.pdl_scope.specs.FlowCosts.{input_steps, once}
 use Rattle.pdl_scope.specs.Plans.{AreShown, met_by, planned}
 use Rattle.pdl_scope.specs.Scope.{arrays_of}
-use Rattle.pdl_scope.proofs.FlowCosts.{input_less, input_more, input_short}
-use Rattle.pdl_scope.proofs.Growing.{readied_arrays}
-use Rattle.pdl_scope.proofs.Inputs.{inputs_more, inputs_shown}
+use Rattle.pdl_scope.proofs.FlowCostLemmas.{input_less, input_more, input_short}
+use Rattle.pdl_scope.proofs.ScopeGrowing.{readied_arrays}
+use Rattle.pdl_scope.proofs.PlanInputs.{inputs_more, inputs_shown}
 use Rattle.pdl_world.specs.Sound.{IsLive}
 use Rattle.pdl_world.specs.World.{World}
-use Rattle.pdl_scope.proofs.Begun.{live_at}
-use Rattle.pdl_scope.proofs.Planned.{planned_kept}
+use Rattle.pdl_scope.proofs.ScopeFlows.{live_at}
+use Rattle.pdl_scope.proofs.PlanLemmas.{planned_kept}
 use Rattle.pdl_scope.proofs.following.inputs_planned.Goals as goal
 
 pub add_input-requires-clause-live : goal.add_input-requires-clause-live

@@ -1,7 +1,7 @@
 use Rattle.std.proofs.Common.{◌≡◌, sym, ap, ◌∙◌}
 use Rattle.std.specs.Prelude.{Option, is_some}
 use Rattle.pdl_scope.specs.declared.following.Change.{Change}
-use Rattle.pdl_scope.proofs.Plans.{altered_found, some_seen}
+use Rattle.pdl_scope.proofs.PlanAssignments.{altered_found, some_seen}
 use Rattle.pdl_scope.proofs.following.is_altered.Goals as goal
 
 pub returns : goal.returns

@@ -3,7 +3,7 @@ use Rattle.std.proofs.lemmas.List.{drop_all}
 use Rattle.pdl_flow.specs.Formula.{arrays_in}
 use Rattle.pdl_machine.specs.Flows.{Flow, Flows, affected}
 use Rattle.pdl_scope.specs.Scope.{arrays_of}
-use Rattle.pdl_scope.proofs.Followers.{affected_by, affected_past, flow_at, older_live}
+use Rattle.pdl_scope.proofs.FlowFollowers.{affected_by, affected_past, flow_at, older_live}
 use Rattle.pdl_scope.proofs.following.is_followed.Goals as goal
 
 pub reads_root-requires-clause-live : goal.reads_root-requires-clause-live

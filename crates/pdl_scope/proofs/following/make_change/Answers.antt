@@ -7,7 +7,7 @@ use Rattle.pdl_scope.specs.Assigning.{CanAssign}
 use Rattle.pdl_scope.specs.Plans.{AreFor, listed}
 use Rattle.pdl_scope.specs.declared.following.Values.{Values}
 use Rattle.pdl_scope.specs.declared.following.Values.TheVariants.{Kept, Listed}
-use Rattle.pdl_scope.proofs.Bounds.{warmed}
+use Rattle.pdl_scope.proofs.LetGoBounds.{warmed}
 use Rattle.pdl_scope.proofs.following.make_change.Goals as goal
 
 -- ---- a buffer that a root takes over

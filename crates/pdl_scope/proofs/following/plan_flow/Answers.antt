@@ -10,11 +10,11 @@ use Rattle.pdl_scope.specs.FlowCosts.{find_steps}
 use Rattle.pdl_scope.specs.Plans.{ArePlanned, all_assigned, listed, planned, roots_in, values_in}
 use Rattle.pdl_scope.specs.Scope.{arrays_of}
 use Rattle.pdl_scope.specs.declared.following.Change.{Change}
-use Rattle.pdl_scope.proofs.Costs.{never_dearer}
-use Rattle.pdl_scope.proofs.FlowCosts.{flow_paid, values_more}
-use Rattle.pdl_scope.proofs.FlowsStay.{flow_live}
-use Rattle.pdl_scope.proofs.Planned.{planned_kept, planned_more}
-use Rattle.pdl_scope.proofs.Plans.{assigned_more}
+use Rattle.pdl_scope.proofs.CostLemmas.{never_dearer}
+use Rattle.pdl_scope.proofs.FlowCostLemmas.{flow_paid, values_more}
+use Rattle.pdl_scope.proofs.FlowingStays.{flow_live}
+use Rattle.pdl_scope.proofs.PlanLemmas.{planned_kept, planned_more}
+use Rattle.pdl_scope.proofs.PlanAssignments.{assigned_more}
 use Rattle.pdl_scope.proofs.following.plan_flow.Goals as goal
 
 pub returns-clause-planned : goal.returns-clause-planned

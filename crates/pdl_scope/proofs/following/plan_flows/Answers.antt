@@ -11,11 +11,11 @@ use Rattle.pdl_scope.specs.Costs.{ReadsNoDearer}
 use Rattle.pdl_scope.specs.Plans.{planned, roots_in, values_in}
 use Rattle.pdl_scope.specs.Scope.{arrays_of}
 use Rattle.pdl_scope.specs.declared.following.Change.{Change}
-use Rattle.pdl_scope.proofs.Costs.{never_dearer}
-use Rattle.pdl_scope.proofs.FlowCosts.{paid_first}
-use Rattle.pdl_scope.proofs.Followers.{flow_at, older_live}
-use Rattle.pdl_scope.proofs.Growing.{readied_arrays}
-use Rattle.pdl_scope.proofs.PlannedFlows.{IsAdded, IsOn, none_added, on_added, on_first, on_past, paid_added, paid_past, paid_short, root_apart, steps_from}
+use Rattle.pdl_scope.proofs.CostLemmas.{never_dearer}
+use Rattle.pdl_scope.proofs.FlowCostLemmas.{paid_first}
+use Rattle.pdl_scope.proofs.FlowFollowers.{flow_at, older_live}
+use Rattle.pdl_scope.proofs.ScopeGrowing.{readied_arrays}
+use Rattle.pdl_scope.proofs.PlanFlows.{IsAdded, IsOn, none_added, on_added, on_first, on_past, paid_added, paid_past, paid_short, root_apart, steps_from}
 use Rattle.pdl_scope.proofs.following.plan_flows.Goals as goal
 use Rattle.pdl_scope.proofs.following.plan_flows.Goals.{then-reads_changed+in_ok-plan_flow, else-reads_changed}
 

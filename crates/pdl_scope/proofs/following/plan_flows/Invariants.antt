@@ -2,7 +2,7 @@ use Rattle.std.proofs.Common.{◌≡◌, ◌+◌, ◌≤◌, []}
 use Rattle.pdl_machine.specs.Flows.{affected}
 use Rattle.pdl_scope.specs.Costs.{ReadsNoDearer}
 use Rattle.pdl_scope.specs.Plans.{roots_in, values_in}
-use Rattle.pdl_scope.proofs.PlannedFlows.{IsOn, steps_from}
+use Rattle.pdl_scope.proofs.PlanFlows.{IsOn, steps_from}
 use Rattle.pdl_scope.proofs.following.plan_flows.Given as goal
 
 -- the flows before this one follow the plan; where none is to, nothing is changed

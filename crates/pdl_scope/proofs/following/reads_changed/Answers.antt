@@ -1,7 +1,7 @@
 use Rattle.std.proofs.Common.{ℕ, ◌<◌, List, length, get_or, sym, subst}
 use Rattle.pdl_flow.specs.Formula.{arrays_in}
 use Rattle.pdl_world.specs.Sound.{IsLive}
-use Rattle.pdl_scope.proofs.Begun.{live_at}
+use Rattle.pdl_scope.proofs.ScopeFlows.{live_at}
 use Rattle.pdl_scope.proofs.following.reads_changed.Goals as goal
 
 pub root-requires : goal.root-requires

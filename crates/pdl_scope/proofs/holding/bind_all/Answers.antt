@@ -3,7 +3,7 @@ use Rattle.std.specs.Option.{option_to_list}
 use Rattle.std.proofs.lemmas.List.{reverse-append}
 use Rattle.pdl_machine.specs.Names.{Named, names_limit}
 use Rattle.pdl_scope.specs.Room.{with_names}
-use Rattle.pdl_scope.proofs.Roots.{first_fits}
+use Rattle.pdl_scope.proofs.RoomRoots.{first_fits}
 use Rattle.pdl_scope.proofs.holding.bind_all.Goals as goal
 
 pub bind_one-requires-clause-few : goal.bind_one-requires-clause-few

@@ -2,7 +2,7 @@ use Rattle.std.proofs.Common.{[], ◌++◌, List, ℕ, sym, ap, subst, ◌∙◌
 use Rattle.std.specs.Option.{option_to_list}
 use Rattle.pdl_machine.specs.Names.{Named, found}
 use Rattle.pdl_scope.specs.Holding.{IsHeldFor}
-use Rattle.pdl_scope.proofs.Held.{held_bound, same_but_holds, room_for}
+use Rattle.pdl_scope.proofs.HoldingLemmas.{held_bound, same_but_holds, room_for}
 use Rattle.pdl_scope.proofs.holding.bind_one.Goals as goal
 
 pub hold_for_name-requires-clause-room : goal.hold_for_name-requires-clause-room

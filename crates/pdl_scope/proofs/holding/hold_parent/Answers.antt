@@ -3,8 +3,8 @@ use Rattle.std.specs.Prelude.{IfSome}
 use Rattle.pdl_world.specs.Swept.{is_listed}
 use Rattle.pdl_engine.specs.State.{State as Engine}
 use Rattle.pdl_scope.specs.Scope.{state_in, IsHeld}
-use Rattle.pdl_scope.proofs.Cuts.{held_noted, noted_last, parent_lives}
-use Rattle.pdl_scope.proofs.Held.{room_for, same_but_holds}
+use Rattle.pdl_scope.proofs.ScopeCuts.{held_noted, noted_last, parent_lives}
+use Rattle.pdl_scope.proofs.HoldingLemmas.{room_for, same_but_holds}
 use Rattle.pdl_scope.proofs.holding.hold_parent.Goals as goal
 
 pub hold-requires-clause-live : goal.hold-requires-clause-live

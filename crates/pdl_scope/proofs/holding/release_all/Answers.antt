@@ -1,6 +1,6 @@
-use Rattle.pdl_scope.proofs.Bounds as bounds
-use Rattle.pdl_scope.proofs.Released.{let_go_more}
-use Rattle.pdl_scope.proofs.Held.{lets_go_refl, lets_go_more, all_let_go, next_counted}
+use Rattle.pdl_scope.proofs.LetGoBounds as bounds
+use Rattle.pdl_scope.proofs.LetGoReleases.{let_go_more}
+use Rattle.pdl_scope.proofs.HoldingLemmas.{lets_go_refl, lets_go_more, all_let_go, next_counted}
 use Rattle.pdl_scope.proofs.holding.release_all.Goals as goal
 
 pub loop-id-init : goal.loop-id-init

@@ -1,7 +1,7 @@
-use Rattle.pdl_scope.proofs.Dearer.{growing}
-use Rattle.pdl_scope.proofs.FlowCosts.{growing_flows}
-use Rattle.pdl_scope.proofs.Newest.{none_lost, roots_are_ready, roots_move, views_add, views_cost}
-use Rattle.pdl_scope.proofs.Waited.{unwritten}
+use Rattle.pdl_scope.proofs.CostsDearer.{growing}
+use Rattle.pdl_scope.proofs.FlowCostLemmas.{growing_flows}
+use Rattle.pdl_scope.proofs.CostNewest.{none_lost, roots_are_ready, roots_move, views_add, views_cost}
+use Rattle.pdl_scope.proofs.CostWaits.{unwritten}
 use Rattle.pdl_scope.proofs.laws.cost_laws.Goals as goal
 
 pub returns-clause-older : goal.returns-clause-older

@@ -5,7 +5,7 @@ use Rattle.pdl_machine.specs.Operators.{binary_each}
 use Rattle.pdl_scope.specs.declared.fault.ScopeFault.{ScopeFault}
 use Rattle.pdl_scope.specs.Answers.{IsFault}
 use Rattle.pdl_scope.specs.Scope.{arrays_of}
-use Rattle.pdl_scope.proofs.Faults.{operated_is, operator_refused}
+use Rattle.pdl_scope.proofs.FaultLemmas.{operated_is, operator_refused}
 use Rattle.pdl_scope.proofs.operating.operated.Goals as goal
 
 pub returns-in-Ok-clause-value : goal.returns-in-Ok-clause-value

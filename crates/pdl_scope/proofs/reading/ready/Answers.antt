@@ -1,4 +1,4 @@
-use Rattle.pdl_scope.proofs.Costs.{no_dearer}
+use Rattle.pdl_scope.proofs.CostLemmas.{no_dearer}
 use Rattle.pdl_scope.proofs.reading.ready.Goals as goal
 
 pub returns-clause-costs : goal.returns-clause-costs

@@ -1,4 +1,4 @@
-use Rattle.pdl_scope.proofs.Costs.{never_dearer, read_both}
+use Rattle.pdl_scope.proofs.CostLemmas.{never_dearer, read_both}
 use Rattle.pdl_scope.proofs.reading.ready_two.Goals as goal
 
 pub returns-clause-counted : goal.returns-clause-counted

@@ -4,7 +4,7 @@ use Rattle.pdl_world.specs.Paths.{root_of}
 use Rattle.pdl_world.specs.World.{elements}
 use Rattle.pdl_watch.specs.Changes.{changes}
 use Rattle.pdl_scope.specs.Plans.{change_to}
-use Rattle.pdl_scope.proofs.Plans.{Laws, found_change, found_listed, shown_found, shown_kept}
+use Rattle.pdl_scope.proofs.PlanAssignments.{Laws, found_change, found_listed, shown_found, shown_kept}
 use Rattle.pdl_scope.proofs.watching.array_foreseen.Goals as goal
 
 pub returns-in-Some-clause-told : goal.returns-in-Some-clause-told

@@ -1,7 +1,7 @@
 use Rattle.std.proofs.Common.{◌≡◌, ℕ, ◌-◌, arith, sym, subst, ◌∙◌}
 use Rattle.std.specs.Prelude.{IsSome}
 use Rattle.pdl_machine.specs.Watches.{watch_of}
-use Rattle.pdl_scope.proofs.Watched.{trimmed_front, trimmed_none}
+use Rattle.pdl_scope.proofs.ScopeWatches.{trimmed_front, trimmed_none}
 use Rattle.pdl_scope.proofs.watching.attached_count.Goals as goal
 
 pub returns-then-is_attached : goal.returns-then-is_attached

@@ -1,4 +1,4 @@
-use Rattle.pdl_scope.proofs.Begun.{live_at}
+use Rattle.pdl_scope.proofs.ScopeFlows.{live_at}
 use Rattle.pdl_scope.proofs.watching.count_all.Goals as goal
 
 pub count_below-requires : goal.count_below-requires

@@ -6,9 +6,9 @@ use Rattle.pdl_world.specs.World.{World}
 use Rattle.pdl_watch.specs.Slots.{lists_of}
 use Rattle.pdl_machine.specs.Watches.{notices, slot_notices}
 use Rattle.pdl_scope.specs.Plans.{all_assigned}
-use Rattle.pdl_scope.proofs.Foreseen.{foreseen_first, foreseen_more}
-use Rattle.pdl_scope.proofs.Planned.{planned_kept}
-use Rattle.pdl_scope.proofs.Watched.{lists_more, live_watch, none_watched}
+use Rattle.pdl_scope.proofs.CostForeseen.{foreseen_first, foreseen_more}
+use Rattle.pdl_scope.proofs.PlanLemmas.{planned_kept}
+use Rattle.pdl_scope.proofs.ScopeWatches.{lists_more, live_watch, none_watched}
 use Rattle.pdl_scope.proofs.watching.foreseen.Goals as goal
 
 pub slot_foreseen-requires-clause-watched : goal.slot_foreseen-requires-clause-watched

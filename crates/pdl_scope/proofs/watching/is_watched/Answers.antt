@@ -1,4 +1,4 @@
-use Rattle.pdl_scope.proofs.Watched.{live_watch}
+use Rattle.pdl_scope.proofs.ScopeWatches.{live_watch}
 use Rattle.pdl_scope.proofs.watching.is_watched.Goals as goal
 
 pub is_below-requires : goal.is_below-requires

@@ -1,6 +1,6 @@
 use Rattle.std.proofs.Common.{sym, subst}
 use Rattle.pdl_machine.specs.State.{AreLive}
-use Rattle.pdl_scope.proofs.Begun.{reads_at}
+use Rattle.pdl_scope.proofs.ScopeFlows.{reads_at}
 use Rattle.pdl_scope.proofs.watching.read_count.Goals as goal
 
 pub count_all-requires : goal.count_all-requires

@@ -1,6 +1,6 @@
 use Rattle.std.proofs.Common.{sym, subst}
 use Rattle.pdl_machine.specs.State.{AreLive}
-use Rattle.pdl_scope.proofs.Begun.{reads_at}
+use Rattle.pdl_scope.proofs.ScopeFlows.{reads_at}
 use Rattle.pdl_scope.proofs.watching.reads_views.Goals as goal
 
 pub has_view-requires : goal.has_view-requires

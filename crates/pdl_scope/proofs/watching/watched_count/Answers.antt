@@ -1,4 +1,4 @@
-use Rattle.pdl_scope.proofs.Watched.{live_watch}
+use Rattle.pdl_scope.proofs.ScopeWatches.{live_watch}
 use Rattle.pdl_scope.proofs.watching.watched_count.Goals as goal
 
 pub count_watched-requires : goal.count_watched-requires

@@ -5,7 +5,7 @@ use Rattle.pdl_machine.specs.Arrays.{Arrays}
 use Rattle.pdl_session.specs.declared.outcome.Outcome.{Outcome}
 use Rattle.pdl_session.specs.Arguments.{all_seen_of, arguments, outcome_of}
 use Rattle.pdl_scope.specs.Answers.{Evaluates}
-use Rattle.pdl_session.proofs.Seen.{evaluates, call_fault, value_is}
+use Rattle.pdl_session.proofs.ArgumentsSeen.{evaluates, call_fault, value_is}
 use Rattle.std.specs.Prelude.{if◌then◌else◌}
 use Rattle.pdl_numbers.specs.Typed.{count_moved}
 use Rattle.pdl_machine.specs.Calls.{builtin_value, outcome}
@@ -14,8 +14,8 @@ use Rattle.pdl_engine.specs.State.{ready_steps}
 use Rattle.pdl_scope.specs.Scope.{engine_of, Grows}
 use Rattle.pdl_session.specs.Costs.{read_all, reads_first, ready_all}
 use Rattle.pdl_session.specs.Came.{came}
-use Rattle.pdl_session.proofs.Gained.{builtin_came, size_in}
-use Rattle.pdl_session.proofs.Expressions.{by_le, reading_refused, root_within, view_within, views_read_others}
+use Rattle.pdl_session.proofs.CameGained.{builtin_came, size_in}
+use Rattle.pdl_session.proofs.CostExpressions.{by_le, reading_refused, root_within, view_within, views_read_others}
 use Rattle.pdl_session.proofs.call.builtin_call.Goals as goal
 
 placed : Outcome → Result Placed Fault

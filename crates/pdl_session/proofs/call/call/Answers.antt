@@ -6,14 +6,14 @@ use Rattle.pdl_machine.specs.Arrays.{Arrays}
 use Rattle.pdl_machine.specs.Then.{and_then}
 use Rattle.pdl_scope.specs.Answers.{IsFault, Evaluates}
 use Rattle.pdl_session.specs.Arguments.{arguments, all_seen_of}
-use Rattle.pdl_session.proofs.Callees.{builtin_called, kernel_called}
-use Rattle.pdl_session.proofs.Facts.{hands_on, first_fault}
+use Rattle.pdl_session.proofs.ArgumentCallees.{builtin_called, kernel_called}
+use Rattle.pdl_session.proofs.ScopeFacts.{hands_on, first_fault}
 use Rattle.pdl_engine.specs.State.{ready_steps}
 use Rattle.pdl_scope.specs.Scope.{engine_of}
 use Rattle.pdl_session.specs.Costs.{EvaluatesWithin, ready_all}
 use Rattle.pdl_session.specs.Came.{came}
-use Rattle.pdl_session.proofs.Gained.{call_came, size_in}
-use Rattle.pdl_session.proofs.Expressions.{after_reading, read_all_le, reading_refused}
+use Rattle.pdl_session.proofs.CameGained.{call_came, size_in}
+use Rattle.pdl_session.proofs.CostExpressions.{after_reading, read_all_le, reading_refused}
 use Rattle.pdl_session.proofs.call.call.Goals as goal
 
 pub returns-in_err-outputs-in-None-clause-value : goal.returns-in_err-outputs-in-None-clause-value

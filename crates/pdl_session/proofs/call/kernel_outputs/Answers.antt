@@ -4,10 +4,10 @@ use Rattle.pdl_machine.specs.declared.fault.Fault.{Fault}
 use Rattle.pdl_machine.specs.declared.fault.Fault.TheVariants.{WrongArguments, UnknownFunction}
 use Rattle.pdl_machine.specs.Then.{all_of}
 use Rattle.pdl_session.specs.Arguments.{array_number}
-use Rattle.pdl_session.proofs.ArraysGiven.{numbers_live, outputs_given, none_given}
+use Rattle.pdl_session.proofs.ArgumentArrays.{numbers_live, outputs_given, none_given}
 use Rattle.pdl_engine.specs.Reading.{read_steps}
 use Rattle.pdl_scope.specs.Scope.{engine_of}
-use Rattle.pdl_session.proofs.Moved.{numbers_cost}
+use Rattle.pdl_session.proofs.CostCalls.{numbers_cost}
 use Rattle.pdl_session.proofs.call.kernel_outputs.Goals as goal
 
 abbrev fault_of : Bool → Fault

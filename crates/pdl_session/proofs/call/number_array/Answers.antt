@@ -5,7 +5,7 @@ use Rattle.pdl_machine.specs.Outcome.{new_root}
 use Rattle.pdl_machine.specs.Value.{number_made}
 use Rattle.pdl_scope.specs.Answers.{Evaluates}
 use Rattle.pdl_session.specs.Came.{came}
-use Rattle.pdl_session.proofs.Expressions.{root_within}
+use Rattle.pdl_session.proofs.CostExpressions.{root_within}
 use Rattle.pdl_session.proofs.call.number_array.Goals as goal
 
 pub returns-clause-within : goal.returns-clause-within

@@ -2,8 +2,8 @@ use Rattle.std.proofs.Common.{◌≡◌, ◌+◌, arith}
 use Rattle.pdl_numbers.specs.Typed.{count_moved}
 use Rattle.pdl_machine.specs.Calls.{only_root}
 use Rattle.pdl_session.specs.Came.{came}
-use Rattle.pdl_session.proofs.Gained.{only_came, size_in}
-use Rattle.pdl_session.proofs.Expressions.{root_within}
+use Rattle.pdl_session.proofs.CameGained.{only_came, size_in}
+use Rattle.pdl_session.proofs.CostExpressions.{root_within}
 use Rattle.pdl_session.proofs.call.only_root.Goals as goal
 
 pub returns-in-len1-clause-within : goal.returns-in-len1-clause-within

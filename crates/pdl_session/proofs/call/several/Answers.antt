@@ -4,7 +4,7 @@ use Rattle.pdl_machine.specs.declared.fault.Fault.{Fault}
 use Rattle.pdl_machine.specs.Builtin.{builtin_of}
 use Rattle.pdl_scope.specs.Answers.{AnswersAs}
 use Rattle.pdl_session.specs.Arguments.{all_seen_of}
-use Rattle.pdl_session.proofs.Callees.{kernel_several}
+use Rattle.pdl_session.proofs.ArgumentCallees.{kernel_several}
 use Rattle.pdl_session.proofs.call.several.Goals as goal
 
 pub returns-in-None-clause-value : goal.returns-in-None-clause-value

@@ -2,8 +2,8 @@ use Rattle.std.proofs.Common.{◌≡◌, true, Ok, sym, ap, ap₂, subst, ◌∙
 use Rattle.pdl_machine.specs.Kernels.{can_name, kernel_of, texts_of, defined}
 use Rattle.pdl_machine.specs.Names.{KernelTexts}
 use Rattle.pdl_scope.specs.Answers.{IsFault}
-use Rattle.pdl_session.proofs.Definitions.{definition_refused, definition_made}
-use Rattle.pdl_session.proofs.Facts.{handed_on}
+use Rattle.pdl_session.proofs.KernelDefinitions.{definition_refused, definition_made}
+use Rattle.pdl_session.proofs.ScopeFacts.{handed_on}
 use Rattle.pdl_session.proofs.defining.kernel_defined.Goals as goal
 
 pub returns-in_err-kernel : goal.returns-in_err-kernel

@@ -1,7 +1,7 @@
 use Rattle.pdl_machine.specs.Kernels.{kernel_of, texts_of}
 use Rattle.pdl_scope.specs.Faults.{of_signature, of_code}
-use Rattle.pdl_session.proofs.Definitions.{signature_refused, code_refused, texts_read}
-use Rattle.pdl_session.proofs.Facts.{handed_on}
+use Rattle.pdl_session.proofs.KernelDefinitions.{signature_refused, code_refused, texts_read}
+use Rattle.pdl_session.proofs.ScopeFacts.{handed_on}
 use Rattle.pdl_session.proofs.defining.kernel_read.Goals as goal
 
 pub returns-in_err-signature : goal.returns-in_err-signature

@@ -3,7 +3,7 @@ use Rattle.std.proofs.lemmas.Int.{to_z-of_z}
 use Rattle.pdl_machine.specs.declared.fault.Fault.TheVariants.{BadDimension}
 use Rattle.pdl_machine.specs.Then.{or_fault}
 use Rattle.pdl_session.specs.Sizes.{clamped_size}
-use Rattle.pdl_session.proofs.Gathered.{front_none, front_more, front_stops, front_all}
+use Rattle.pdl_session.proofs.ArgumentsGathered.{front_none, front_more, front_stops, front_all}
 use Rattle.pdl_session.proofs.dims.clamped.Goals as goal
 
 pub loop-number-init : goal.loop-number-init

@@ -4,7 +4,7 @@ use Rattle.pdl_shape.specs.declared.sizes.ShapeFault.{ShapeFault}
 use Rattle.pdl_shape.specs.Refusals.{named, refusal_of}
 use Rattle.pdl_machine.specs.declared.fault.Fault.{Fault}
 use Rattle.pdl_machine.specs.Refused.{shape_fault, or_named}
-use Rattle.pdl_session.proofs.Clamps.{dims_found, dims_refused}
+use Rattle.pdl_session.proofs.SizeClamps.{dims_found, dims_refused}
 use Rattle.pdl_session.proofs.dims.dims_for.Goals as goal
 
 abbrev seen : Result (List ℕ) ShapeFault → Result (List ℕ) Fault

@@ -7,9 +7,9 @@ use Rattle.pdl_machine.specs.Arrays.{Arrays}
 use Rattle.pdl_scope.specs.Growth.{reads_refl}
 use Rattle.pdl_session.specs.declared.given.Given.TheVariants.{Array}
 use Rattle.pdl_session.specs.Arguments.{seen_of}
-use Rattle.pdl_session.proofs.Gathered.{front_none, front_more, front_stops, front_all, live_next, numbers_seen}
-use Rattle.pdl_session.proofs.Facts.{reads_trans}
-use Rattle.pdl_session.proofs.Moved.{read_first, read_next, reads_cost}
+use Rattle.pdl_session.proofs.ArgumentsGathered.{front_none, front_more, front_stops, front_all, live_next, numbers_seen}
+use Rattle.pdl_session.proofs.ScopeFacts.{reads_trans}
+use Rattle.pdl_session.proofs.CostCalls.{read_first, read_next, reads_cost}
 use Rattle.pdl_session.proofs.dims.numbers_in.Goals as goal
 
 pub returns-in-None-clause-value : goal.returns-in-None-clause-value

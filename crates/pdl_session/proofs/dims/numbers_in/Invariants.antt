@@ -3,7 +3,7 @@ use Rattle.pdl_session.specs.Costs.{read_all}
 use Rattle.pdl_machine.specs.Fills.{number_in}
 use Rattle.pdl_scope.specs.Scope.{OnlyReads}
 use Rattle.pdl_session.specs.Arguments.{seen_of, AreGivenLive}
-use Rattle.pdl_session.proofs.Gathered.{IsFront}
+use Rattle.pdl_session.proofs.ArgumentsGathered.{IsFront}
 use Rattle.pdl_session.proofs.dims.numbers_in.Given as goal
 
 abbrev pub invariant-loop-one : goal.invariant-loop-one

@@ -15,7 +15,7 @@ use Rattle.pdl_session.specs.declared.given.Given.{Given}
 use Rattle.pdl_scope.specs.Answers.{IsFault, Evaluates}
 use Rattle.pdl_session.specs.Bounds.{EvaluatesPlainly}
 use Rattle.pdl_session.specs.Arguments.{argument, arguments, AreGivenLive}
-use Rattle.pdl_session.proofs.Bounded.{list_plain, named_plain, number_plain}
+use Rattle.pdl_session.proofs.BoundLemmas.{list_plain, named_plain, number_plain}
 use Rattle.std.proofs.Common.{ℕ, ℤ, FitsSigned, Vec, Global}
 use Rattle.pdl_ops.specs.Elementwise.{unary_each}
 use Rattle.pdl_engine.specs.State.{ready_steps}
@@ -28,10 +28,10 @@ use Rattle.pdl_scope.specs.Costs.{MovesUpTo, total_size}
 use Rattle.pdl_scope.specs.Scope.{engine_of}
 use Rattle.pdl_session.specs.Came.{args_evaluated, args_left, came, evaluated, parts_left}
 use Rattle.pdl_session.specs.Costs.{EvaluatesWithin, argued_steps, named_steps, ready_all}
-use Rattle.pdl_session.proofs.Expressions.{args_less, argued_part, binary_within, both_parts, list_within, made_enough, named_within, names_less, names_live, number_within, paid_on, pays_fault, taken_more, taken_refused, unary_within, unmoved_within}
-use Rattle.pdl_session.proofs.Gained.{call_part, left_part, right_part, size_in, unary_part, up_to_part}
-use Rattle.pdl_session.proofs.Facts.{hands_on, handed_on, first_fault, grows_trans}
-use Rattle.pdl_session.proofs.Evals.{fault_at, arrays_at, weight, weights, weights_at, named_is, list_is, unary_tree, binary_tree, unary_is, binary_is, unary_fault, left_fault, right_fault, tree_is, with_given, call_is, arguments_snoc, live_snoc, given_still, args_more}
+use Rattle.pdl_session.proofs.CostExpressions.{args_less, argued_part, binary_within, both_parts, list_within, made_enough, named_within, names_less, names_live, number_within, paid_on, pays_fault, taken_more, taken_refused, unary_within, unmoved_within}
+use Rattle.pdl_session.proofs.CameGained.{call_part, left_part, right_part, size_in, unary_part, up_to_part}
+use Rattle.pdl_session.proofs.ScopeFacts.{hands_on, handed_on, first_fault, grows_trans}
+use Rattle.pdl_session.proofs.ArgumentEvals.{fault_at, arrays_at, weight, weights, weights_at, named_is, list_is, unary_tree, binary_tree, unary_is, binary_is, unary_fault, left_fault, right_fault, tree_is, with_given, call_is, arguments_snoc, live_snoc, given_still, args_more}
 use Rattle.pdl_session.proofs.eval.+eval.Goals as goal
 
 pub eval-take-requires : goal.eval-take-requires
@@ -40,7 +40,7 @@ eval-take-requires g t c =
     let e : tree_of c.args.value.now ≡ call c.in-Call.name (args_of xs none) = tree_is c.args.value.now c.in-Call.name c.in-Call.args xs (c.calls_are_trees.ensures c.in-Call.name c.in-Call.args) c.in-Call.is c.deref-in-Call.ensures.value in
     let w : weight (tree_of c.args.value.now) ≡ weights (args_of xs none) + 2 = ap weight e in
     let P : List Given → Type 0 = AreGivenLive c.args.scope.now.arrays.world in
-    λ κs within. (search (rules, w), (within, (subst AreArrays e c.requires, subst P (sym c.new-none.ensures.items) tt)))
+    λ κs within. (search (rules, w), (within, (subst AreArrays e c.requires, subst P (sym c.in_ok-none-in-Call.ensures.items) tt)))
 
 pub eval-returns-in_ok-given-in-Call-clause-value : goal.eval-returns-in_ok-given-in-Call-clause-value
 eval-returns-in_ok-given-in-Call-clause-value g t c =
@@ -49,7 +49,7 @@ eval-returns-in_ok-given-in-Call-clause-value g t c =
     let a = c.args.scope.now.arrays in
     let e : tree_of c.args.value.now ≡ call c.in-Call.name (args_of xs none) = tree_is c.args.value.now c.in-Call.name c.in-Call.args xs (c.calls_are_trees.ensures c.in-Call.name c.in-Call.args) c.in-Call.is c.deref-in-Call.ensures.value in
     let all : taken names a (args_of xs none) ≡ Ok (c.take.new.scope.arrays, arguments c.in_ok-given-in-Call.given.items) =
-    c.in_ok-given-in-Call.ensures.value a none (ap (λ gs. with_given a (arguments gs)) (sym c.new-none.ensures.items)) in
+    c.in_ok-given-in-Call.ensures.value a none (ap (λ gs. with_given a (arguments gs)) (sym c.in_ok-none-in-Call.ensures.items)) in
     let v : value_of names a (tree_of c.args.value.now) ≡ call_value c.take.new.scope.names c.in-Call.name c.take.new.scope.arrays (arguments c.deref-in-Call-2.result.now) =
     ap (value_of names a) e
     ∙ call_is names c.take.new.scope.names a c.take.new.scope.arrays c.in-Call.name (args_of xs none) (arguments c.in_ok-given-in-Call.given.items) (arguments c.deref-in-Call-2.result.now) all (ap arguments c.deref-in-Call-2.ensures.value) c.take.ensures.grown.names in
@@ -62,7 +62,7 @@ eval-returns-in_err-given-in-Call-clause-value g t c =
     let a = c.args.scope.now.arrays in
     let f = c.in_err-given-in-Call.field-0.0 in
     let e : tree_of c.args.value.now ≡ call c.in-Call.name (args_of xs none) = tree_is c.args.value.now c.in-Call.name c.in-Call.args xs (c.calls_are_trees.ensures c.in-Call.name c.in-Call.args) c.in-Call.is c.deref-in-Call.ensures.value in
-    let all : IsFault (taken names a (args_of xs none)) f = c.in_err-given-in-Call.ensures.value a none (ap (λ gs. with_given a (arguments gs)) (sym c.new-none.ensures.items)) in
+    let all : IsFault (taken names a (args_of xs none)) f = c.in_err-given-in-Call.ensures.value a none (ap (λ gs. with_given a (arguments gs)) (sym c.in_ok-none-in-Call.ensures.items)) in
     let h : IsFault (value_of names a (tree_of c.args.value.now)) f = subst (λ (x : Tree). IsFault (value_of names a x) f) (sym e) (first_fault (taken names a (args_of xs none)) (λ x. call_value names c.in-Call.name x.0 x.1) f all) in
     hands_on _ c.take.new.scope f c.from_residual-in_err-given-in-Call.result c.from_residual-in_err-given-in-Call.ensures.1 h
 
@@ -159,6 +159,9 @@ eval-returns-in_err-operand-in-Unary-clause-grown g t c = c.eval.ensures.grown
 pub eval-returns-in_err-left-in-Binary-clause-grown : goal.eval-returns-in_err-left-in-Binary-clause-grown
 eval-returns-in_err-left-in-Binary-clause-grown g t c = c.eval-in-Binary.ensures.grown
 
+pub eval-returns-in_err-none-in-Call-clause-grown : goal.eval-returns-in_err-none-in-Call-clause-grown
+eval-returns-in_err-none-in-Call-clause-grown g t c = grows_refl c.args.scope.now
+
 pub eval-returns-in_err-given-in-Call-clause-grown : goal.eval-returns-in_err-given-in-Call-clause-grown
 eval-returns-in_err-given-in-Call-clause-grown g t c = c.take.ensures.grown
 
@@ -223,6 +226,11 @@ pub eval-returns-in_ok-given-in-Call-clause-plain : goal.eval-returns-in_ok-give
 eval-returns-in_ok-given-in-Call-clause-plain g t c =
     let e = tree_is c.args.value.now c.in-Call.name c.in-Call.args c.deref-in-Call.result.now (c.calls_are_trees.ensures c.in-Call.name c.in-Call.args) c.in-Call.is c.deref-in-Call.ensures.value in
     subst (λ (x : Tree). EvaluatesPlainly x c.args.scope.now c.call.new.scope c.args.steps.now c.call.new.steps c.call.result) (sym e) tt
+
+pub eval-returns-in_err-none-in-Call-clause-plain : goal.eval-returns-in_err-none-in-Call-clause-plain
+eval-returns-in_err-none-in-Call-clause-plain g t c =
+    let e = tree_is c.args.value.now c.in-Call.name c.in-Call.args c.in-Call.args.items (c.calls_are_trees.ensures c.in-Call.name c.in-Call.args) c.in-Call.is refl in
+    subst (λ (x : Tree). EvaluatesPlainly x c.args.scope.now c.args.scope.now c.args.steps.now c.args.steps.now c.from_residual-in_err-none-in-Call.result) (sym e) tt
 
 pub eval-returns-in_err-given-in-Call-clause-plain : goal.eval-returns-in_err-given-in-Call-clause-plain
 eval-returns-in_err-given-in-Call-clause-plain g t c =
@@ -384,10 +392,10 @@ eval-returns-in_ok-given-in-Call-clause-within g t c =
     let args = args_of xs none in
     let items = arguments c.deref-in-Call-2.result.now in
     let e : tree_of c.args.value.now ≡ call f args = tree_is c.args.value.now f c.in-Call.args xs (c.calls_are_trees.ensures f c.in-Call.args) c.in-Call.is c.deref-in-Call.ensures.value in
-    let before = ap (λ gs. with_given s.arrays (arguments gs)) (sym c.new-none.ensures.items) in
+    let before = ap (λ gs. with_given s.arrays (arguments gs)) (sym c.in_ok-none-in-Call.ensures.items) in
     let all : taken s.names s.arrays args ≡ Ok (mid.arrays, arguments c.in_ok-given-in-Call.given.items) = c.in_ok-given-in-Call.ensures.value s.arrays none before in
     let G : List Given → Type 0 = λ gs. c.take.new.steps + ready_all mid c.in_ok-given-in-Call.given.items + total_size s.arrays.world ≤ c.args.steps.now + total_size mid.arrays.world + (argued_steps s args + ready_all s gs) in
-    let given : G [] = subst G c.new-none.ensures.items (c.in_ok-given-in-Call.ensures.within s.arrays none before) in
+    let given : G [] = subst G c.in_ok-none-in-Call.ensures.items (c.in_ok-given-in-Call.ensures.within s.arrays none before) in
     let part = came (call_value mid.names f mid.arrays items) mid.arrays in
     let H : List Given → Type 0 = λ gs. EvaluatesWithin (ready_all mid gs) mid c.call.new.scope part c.take.new.steps c.call.new.steps c.call.result in
     let called = subst H c.deref-in-Call-2.ensures.value c.call.ensures.within in
@@ -398,6 +406,14 @@ eval-returns-in_ok-given-in-Call-clause-within g t c =
     subst (λ (z : Tree). EvaluatesWithin (named_steps s z) s c.call.new.scope (evaluated s.names s.arrays z) c.args.steps.now c.call.new.steps c.call.result) (sym e)
     (paid_on (ready_steps (engine_of c.call.new.scope)) (ready_all mid c.in_ok-given-in-Call.given.items) (argued_steps s args) s mid c.call.new.scope part late c.args.steps.now c.take.new.steps c.call.new.steps c.call.result (omega (arith, given)) (omega (arith, size)) called)
 
+pub eval-returns-in_err-none-in-Call-clause-within : goal.eval-returns-in_err-none-in-Call-clause-within
+eval-returns-in_err-none-in-Call-clause-within g t c =
+    let s = c.args.scope.now in
+    let tree = tree_of c.args.value.now in
+    let n = c.args.steps.now in
+    pays_fault (ready_steps (engine_of s)) (named_steps s tree) s s (evaluated s.names s.arrays tree) n n NoMemory c.from_residual-in_err-none-in-Call.result c.from_residual-in_err-none-in-Call.ensures.1
+    (unmoved_within s.names s tree (named_steps s tree) n)
+
 pub eval-returns-in_err-given-in-Call-clause-within : goal.eval-returns-in_err-given-in-Call-clause-within
 eval-returns-in_err-given-in-Call-clause-within g t c =
     let s = c.args.scope.now in
@@ -406,8 +422,8 @@ eval-returns-in_err-given-in-Call-clause-within g t c =
     let f = c.in-Call.name in
     let args = args_of xs none in
     let e : tree_of c.args.value.now ≡ call f args = tree_is c.args.value.now f c.in-Call.args xs (c.calls_are_trees.ensures f c.in-Call.args) c.in-Call.is c.deref-in-Call.ensures.value in
-    let before = ap (λ gs. with_given s.arrays (arguments gs)) (sym c.new-none.ensures.items) in
-    let none_given : ready_all s c.new-none.result.items ≡ 0 = ap (ready_all s) c.new-none.ensures.items in
+    let before = ap (λ gs. with_given s.arrays (arguments gs)) (sym c.in_ok-none-in-Call.ensures.items) in
+    let none_given : ready_all s c.in_ok-none-in-Call.none.items ≡ 0 = ap (ready_all s) c.in_ok-none-in-Call.ensures.items in
     let part = call_part s.names s.arrays f args in
     let within = c.in_err-given-in-Call.ensures.within s.arrays none before in
     subst (λ (z : Tree). EvaluatesWithin (named_steps s z) s new (evaluated s.names s.arrays z) c.args.steps.now c.take.new.steps c.from_residual-in_err-given-in-Call.result) (sym e)

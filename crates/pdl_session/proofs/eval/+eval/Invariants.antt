@@ -8,7 +8,7 @@ use Rattle.pdl_machine.specs.Arrays.{Arrays}
 use Rattle.pdl_machine.specs.Value.{taken}
 use Rattle.pdl_session.specs.Arguments.{arguments, AreGivenLive}
 use Rattle.pdl_scope.specs.Scope.{Grows}
-use Rattle.pdl_session.proofs.Evals.{weight, weights}
+use Rattle.pdl_session.proofs.ArgumentEvals.{weight, weights}
 use Rattle.pdl_session.proofs.eval.+eval.Given as goal
 
 -- the arguments so far are evaluated

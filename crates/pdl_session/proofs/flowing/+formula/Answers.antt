@@ -5,8 +5,8 @@ use Rattle.pdl_syntax.specs.TreeOf.{tree_of, args_of}
 use Rattle.pdl_syntax.specs.Formulas.{is_formula}
 use Rattle.pdl_syntax.specs.WellMade.{AreArrays}
 use Rattle.pdl_machine.specs.Formulas.{formula_of}
-use Rattle.pdl_session.proofs.Evals.{weight, weights, binary_tree, tree_is}
-use Rattle.pdl_session.proofs.Formed.{binary_formed, both_formulas, convert_formed, convert_refused, forms_fault, no_operand, one_formula}
+use Rattle.pdl_session.proofs.ArgumentEvals.{weight, weights, binary_tree, tree_is}
+use Rattle.pdl_session.proofs.CameFlows.{binary_formed, both_formulas, convert_formed, convert_refused, forms_fault, no_operand, one_formula}
 use Rattle.pdl_session.proofs.flowing.+formula.Goals as goal
 
 pub formula_of-formula_of-requires-in-Binary-2 : goal.formula_of-formula_of-requires-in-Binary-2

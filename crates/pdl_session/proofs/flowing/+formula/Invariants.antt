@@ -1,7 +1,7 @@
 use Rattle.std.proofs.Common.{◌+◌}
 use Rattle.pdl_syntax.specs.Tree.{none}
 use Rattle.pdl_syntax.specs.TreeOf.{tree_of, args_of, argument_of}
-use Rattle.pdl_session.proofs.Evals.{weight, weights}
+use Rattle.pdl_session.proofs.ArgumentEvals.{weight, weights}
 use Rattle.pdl_session.proofs.flowing.+formula.Given as goal
 
 abbrev pub decreases-formula_of : goal.decreases-formula_of

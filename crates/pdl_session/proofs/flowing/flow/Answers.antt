@@ -1,6 +1,6 @@
 use Rattle.pdl_flow.specs.Formula.{arrays_in, tree_of as formula_tree}
 use Rattle.pdl_syntax.specs.TreeOf.{tree_of}
-use Rattle.pdl_session.proofs.Formed.{equals_value, flow_unformed, flow_unmade, flowing_within, runs_flow, still_live}
+use Rattle.pdl_session.proofs.CameFlows.{equals_value, flow_unformed, flow_unmade, flowing_within, runs_flow, still_live}
 use Rattle.pdl_session.proofs.flowing.flow.Goals as goal
 
 pub flow-made-requires-clause-live : goal.flow-made-requires-clause-live

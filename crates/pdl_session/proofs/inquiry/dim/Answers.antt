@@ -1,7 +1,7 @@
 use Rattle.std.proofs.Common.{sym, arith}
 use Rattle.pdl_engine.specs.Reading.{read_steps}
 use Rattle.pdl_scope.specs.Scope.{engine_of}
-use Rattle.pdl_session.proofs.Moved.{behind_costs}
+use Rattle.pdl_session.proofs.CostCalls.{behind_costs}
 use Rattle.pdl_session.proofs.inquiry.dim.Goals as goal
 
 pub returns-in-Some-2-clause-counted : goal.returns-in-Some-2-clause-counted

@@ -2,7 +2,7 @@ use Rattle.std.proofs.Common.{sym, arith}
 use Rattle.pdl_engine.specs.Reading.{read_steps}
 use Rattle.pdl_scope.specs.Scope.{engine_of}
 use Rattle.pdl_session.specs.Costs.{reads_elements}
-use Rattle.pdl_session.proofs.Moved.{told_costs}
+use Rattle.pdl_session.proofs.CostCalls.{told_costs}
 use Rattle.pdl_session.proofs.inquiry.inquiry.Goals as goal
 
 pub returns-in-Ok-clause-counted : goal.returns-in-Ok-clause-counted

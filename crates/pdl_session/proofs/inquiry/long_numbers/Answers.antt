@@ -1,5 +1,5 @@
 use Rattle.std.proofs.Common.{rules, ◌≡◌, [], ◌∷◌, length, ◌∙◌}
-use Rattle.pdl_session.proofs.Sizes.{numbers_made}
+use Rattle.pdl_session.proofs.ShapeSizes.{numbers_made}
 use Rattle.pdl_session.proofs.inquiry.long_numbers.Goals as goal
 
 pub returns-clause-made : goal.returns-clause-made

@@ -1,5 +1,5 @@
 use Rattle.std.proofs.Common.{◌≤◌, ℕ, List, All, sym, subst}
-use Rattle.pdl_session.proofs.Sizes.{sizes_small}
+use Rattle.pdl_session.proofs.ShapeSizes.{sizes_small}
 use Rattle.pdl_session.proofs.inquiry.size_at.Goals as goal
 
 pub long_number-requires : goal.long_number-requires

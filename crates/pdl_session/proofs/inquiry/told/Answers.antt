@@ -1,7 +1,7 @@
 use Rattle.std.proofs.Common.{◌≡◌, ◌≤◌, ℕ, List, All, length, sym, ap, subst, ◌∙◌, arith}
 use Rattle.pdl_shape.specs.Shape.{size_of}
 use Rattle.pdl_world.specs.World.{dims_in}
-use Rattle.pdl_session.proofs.Sizes.{sizes_small, below_small}
+use Rattle.pdl_session.proofs.ShapeSizes.{sizes_small, below_small}
 use Rattle.pdl_session.proofs.inquiry.told.Goals as goal
 
 pub long_numbers-requires-clause-small : goal.long_numbers-requires-clause-small

@@ -1,4 +1,4 @@
-use Rattle.pdl_session.proofs.KeptViews.{kept_views_cost_nothing, ready_prints_move_nothing}
+use Rattle.pdl_session.proofs.MovesLawViews.{kept_views_cost_nothing, ready_prints_move_nothing}
 use Rattle.pdl_session.proofs.laws.moves_laws.Goals as goal
 
 pub returns-clause-kept : goal.returns-clause-kept

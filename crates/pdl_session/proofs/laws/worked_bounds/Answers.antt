@@ -1,5 +1,5 @@
 use Rattle.std.proofs.Common.{refl}
-use Rattle.pdl_session.proofs.Worked.{late_writes_move_little}
+use Rattle.pdl_session.proofs.WorkedBoundLemmas.{late_writes_move_little}
 use Rattle.pdl_session.proofs.laws.worked_bounds.Goals as goal
 
 pub returns-clause-late : goal.returns-clause-late

@@ -3,7 +3,7 @@ use Rattle.pdl_buf.specs.declared.made.Made.{Made}
 use Rattle.pdl_machine.specs.Outcome.{made}
 use Rattle.pdl_scope.specs.declared.fault.ScopeFault.{ScopeFault}
 use Rattle.pdl_scope.specs.Answers.{Answers}
-use Rattle.pdl_session.proofs.Facts.{first_fault}
+use Rattle.pdl_session.proofs.ScopeFacts.{first_fault}
 use Rattle.pdl_session.proofs.reducing.new_array.Goals as goal
 
 pub returns-in-Err-clause-value : goal.returns-in-Err-clause-value

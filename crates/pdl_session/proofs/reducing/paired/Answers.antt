@@ -4,8 +4,8 @@ use Rattle.pdl_scope.specs.Scope.{engine_of}
 use Rattle.pdl_reduce.specs.Pairings.{paired}
 use Rattle.pdl_machine.specs.Arrays.{array_in}
 use Rattle.pdl_machine.specs.Refused.{reduce_fault, or_named}
-use Rattle.pdl_session.proofs.Moved.{both_cost}
-use Rattle.pdl_session.proofs.Reduced.{two_given}
+use Rattle.pdl_session.proofs.CostCalls.{both_cost}
+use Rattle.pdl_session.proofs.ArgumentReductions.{two_given}
 use Rattle.pdl_session.proofs.reducing.paired.Goals as goal
 
 pub returns-in-Some-clause-value : goal.returns-in-Some-clause-value

@@ -4,8 +4,8 @@ use Rattle.pdl_scope.specs.Scope.{engine_of}
 use Rattle.pdl_reduce.specs.Reductions.{reduced}
 use Rattle.pdl_machine.specs.Arrays.{array_in}
 use Rattle.pdl_machine.specs.Refused.{reduce_fault, or_named}
-use Rattle.pdl_session.proofs.Moved.{one_costs}
-use Rattle.pdl_session.proofs.Reduced.{one_given}
+use Rattle.pdl_session.proofs.CostCalls.{one_costs}
+use Rattle.pdl_session.proofs.ArgumentReductions.{one_given}
 use Rattle.pdl_session.proofs.reducing.reduced.Goals as goal
 
 pub returns-in-Some-clause-value : goal.returns-in-Some-clause-value

@@ -4,10 +4,10 @@ use Rattle.pdl_machine.specs.Fills.{dims_for, numbers_in}
 use Rattle.pdl_machine.specs.Then.{and_then}
 use Rattle.pdl_session.specs.Arguments.{all_seen_of, arguments}
 use Rattle.pdl_scope.specs.Growth.{reads_grow}
-use Rattle.pdl_session.proofs.Cutting.{sizes_refused, dims_refused, runs_resized}
+use Rattle.pdl_session.proofs.ArgumentCuts.{sizes_refused, dims_refused, runs_resized}
 use Rattle.pdl_session.specs.Costs.{read_all}
-use Rattle.pdl_session.proofs.Facts.{ends_at}
-use Rattle.pdl_session.proofs.Moves.{resized_counted}
+use Rattle.pdl_session.proofs.ScopeFacts.{ends_at}
+use Rattle.pdl_session.proofs.MoveLemmas.{resized_counted}
 use Rattle.pdl_session.proofs.resizing.resized.Goals as goal
 
 pub returns-in_err-numbers-clause-runs : goal.returns-in_err-numbers-clause-runs

@@ -9,13 +9,13 @@ use Rattle.pdl_syntax.specs.TreeOf.{tree_of}
 use Rattle.pdl_syntax.specs.declared.tree.ViewCall.{ViewCall}
 use Rattle.pdl_syntax.specs.StatementTree.{view_of}
 use Rattle.pdl_machine.specs.Step.{target, assigned}
-use Rattle.pdl_session.proofs.Affected.{assigned_affected, flows_within, late_unflowed}
-use Rattle.pdl_session.proofs.Bounded.{bare_noted, no_views_of, target_refused, value_refused, assigned_plainly, assigned_readable}
-use Rattle.pdl_session.proofs.Facts.{ends_at, grows_trans}
-use Rattle.pdl_session.proofs.Assigning.{assigned_told}
-use Rattle.pdl_session.proofs.Expressions.{names_less, names_live}
-use Rattle.pdl_session.proofs.Moves.{assigned_within, target_left, value_left}
-use Rattle.pdl_session.proofs.Statements.{runs_assigned, assigned_refused}
+use Rattle.pdl_session.proofs.EvaluationAffected.{assigned_affected, flows_within, late_unflowed}
+use Rattle.pdl_session.proofs.BoundLemmas.{bare_noted, no_views_of, target_refused, value_refused, assigned_plainly, assigned_readable}
+use Rattle.pdl_session.proofs.ScopeFacts.{ends_at, grows_trans}
+use Rattle.pdl_session.proofs.ScopeAssignments.{assigned_told}
+use Rattle.pdl_session.proofs.CostExpressions.{names_less, names_live}
+use Rattle.pdl_session.proofs.MoveLemmas.{assigned_within, target_left, value_left}
+use Rattle.pdl_session.proofs.PerformedStatements.{runs_assigned, assigned_refused}
 use Rattle.pdl_session.proofs.statement.assign_value.Goals as goal
 
 pub returns-clause-runs : goal.returns-clause-runs

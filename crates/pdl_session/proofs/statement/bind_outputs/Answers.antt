@@ -7,10 +7,10 @@ use Rattle.pdl_scope.specs.Answers.{Runs}
 use Rattle.pdl_scope.specs.Costs.{MovesUpTo, arrays_after}
 use Rattle.pdl_session.specs.Arguments.{arguments}
 use Rattle.pdl_session.specs.Costs.{ready_all}
-use Rattle.pdl_session.proofs.Expressions.{read_all_le}
-use Rattle.pdl_session.proofs.Facts.{ends_at}
-use Rattle.pdl_session.proofs.Moves.{output_refused_within, output_within, outputs_refused_within, outputs_within}
-use Rattle.pdl_session.proofs.Statements.{runs_output, output_refused, runs_several, several_read, several_refused}
+use Rattle.pdl_session.proofs.CostExpressions.{read_all_le}
+use Rattle.pdl_session.proofs.ScopeFacts.{ends_at}
+use Rattle.pdl_session.proofs.MoveLemmas.{output_refused_within, output_within, outputs_refused_within, outputs_within}
+use Rattle.pdl_session.proofs.PerformedStatements.{runs_output, output_refused, runs_several, several_read, several_refused}
 use Rattle.pdl_session.proofs.statement.bind_outputs.Goals as goal
 
 pub returns-in_err-outputs-clause-runs : goal.returns-in_err-outputs-clause-runs

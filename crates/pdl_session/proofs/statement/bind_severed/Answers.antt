@@ -3,8 +3,8 @@ use Rattle.pdl_syntax.specs.TreeOf.{tree_of}
 use Rattle.pdl_machine.specs.Value.{value_of}
 use Rattle.pdl_session.specs.Came.{parts_left}
 use Rattle.pdl_session.specs.Costs.{named_steps}
-use Rattle.pdl_session.proofs.Cutting.{runs_severed}
-use Rattle.pdl_session.proofs.Moves.{severed_within}
+use Rattle.pdl_session.proofs.ArgumentCuts.{runs_severed}
+use Rattle.pdl_session.proofs.MoveLemmas.{severed_within}
 use Rattle.pdl_session.proofs.statement.bind_severed.Goals as goal
 
 pub returns-clause-runs : goal.returns-clause-runs

@@ -2,8 +2,8 @@ use Rattle.pdl_syntax.specs.TreeOf.{tree_of}
 use Rattle.pdl_machine.specs.Value.{value_of}
 use Rattle.pdl_session.specs.Costs.{named_steps}
 use Rattle.pdl_session.specs.Came.{parts_left}
-use Rattle.pdl_session.proofs.Moves.{bound_within}
-use Rattle.pdl_session.proofs.Statements.{runs_bound}
+use Rattle.pdl_session.proofs.MoveLemmas.{bound_within}
+use Rattle.pdl_session.proofs.PerformedStatements.{runs_bound}
 use Rattle.pdl_session.proofs.statement.bind_value.Goals as goal
 
 pub returns-clause-runs : goal.returns-clause-runs

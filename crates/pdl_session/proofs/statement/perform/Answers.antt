@@ -10,8 +10,8 @@ use Rattle.pdl_scope.specs.Answers.{Prints}
 use Rattle.pdl_scope.specs.Scope.{machine}
 use Rattle.pdl_session.specs.Performed.{Performs}
 use Rattle.pdl_session.specs.Statements.{MovesByForm}
-use Rattle.pdl_session.proofs.Dumped.{dump_within}
-use Rattle.pdl_session.proofs.Statements.{silent, silent_err}
+use Rattle.pdl_session.proofs.DumpingLemmas.{dump_within}
+use Rattle.pdl_session.proofs.PerformedStatements.{silent, silent_err}
 use Rattle.pdl_session.proofs.statement.perform.Goals as goal
 
 pub returns-in-Show-clause-performs : goal.returns-in-Show-clause-performs

@@ -1,7 +1,7 @@
 use Rattle.std.proofs.Common.{sym, ◌∙◌}
 use Rattle.pdl_scope.specs.Scope.{engine_of}
-use Rattle.pdl_session.proofs.Cutting.{runs_cut}
-use Rattle.pdl_session.proofs.Moves.{name_cut}
+use Rattle.pdl_session.proofs.ArgumentCuts.{runs_cut}
+use Rattle.pdl_session.proofs.MoveLemmas.{name_cut}
 use Rattle.pdl_session.proofs.statement.sever.Goals as goal
 
 pub returns-in-Some-clause-runs : goal.returns-in-Some-clause-runs

@@ -3,15 +3,15 @@ use Rattle.pdl_machine.specs.Arrays.{Arrays}
 use Rattle.pdl_machine.specs.Step.{Stepped, after_printing}
 use Rattle.pdl_machine.specs.Then.{and_then}
 use Rattle.pdl_scope.specs.Scope.{machine}
-use Rattle.pdl_session.proofs.Facts.{ends_at, first_fault}
+use Rattle.pdl_session.proofs.ScopeFacts.{ends_at, first_fault}
 use Rattle.pdl_scope.specs.Growth.{grows_trans, reads_grow}
-use Rattle.pdl_session.proofs.Statements.{silent, falls_short}
+use Rattle.pdl_session.proofs.PerformedStatements.{silent, falls_short}
 use Rattle.pdl_syntax.specs.TreeOf.{tree_of}
-use Rattle.pdl_session.proofs.Bounded.{unshown_plainly}
+use Rattle.pdl_session.proofs.BoundLemmas.{unshown_plainly}
 use Rattle.pdl_session.specs.Costs.{named_steps}
 use Rattle.pdl_machine.specs.Value.{value_of}
 use Rattle.pdl_session.specs.Came.{parts_left}
-use Rattle.pdl_session.proofs.Moves.{shown_within}
+use Rattle.pdl_session.proofs.MoveLemmas.{shown_within}
 use Rattle.pdl_session.proofs.statement.show.Goals as goal
 
 pub returns-in_err-id-clause-moves : goal.returns-in_err-id-clause-moves

@@ -6,8 +6,8 @@ use Rattle.pdl_engine.specs.State.{ready_steps}
 use Rattle.pdl_scope.specs.Scope.{engine_of}
 use Rattle.pdl_session.specs.Came.{evaluated}
 use Rattle.pdl_session.specs.Costs.{named_steps}
-use Rattle.pdl_session.proofs.Expressions.{pays_fault}
-use Rattle.pdl_session.proofs.Facts.{first_fault, hands_on}
+use Rattle.pdl_session.proofs.CostExpressions.{pays_fault}
+use Rattle.pdl_session.proofs.ScopeFacts.{first_fault, hands_on}
 use Rattle.pdl_session.proofs.target.assigned_to.Goals as goal
 
 pub returns-in_err-id-clause-value : goal.returns-in_err-id-clause-value

@@ -17,11 +17,11 @@ use Rattle.pdl_session.specs.declared.given.Given.TheVariants.{Array}
 use Rattle.pdl_session.specs.Arguments.{arguments}
 use Rattle.pdl_session.specs.Costs.{EvaluatesWithin, argued_steps, ready_all}
 use Rattle.pdl_session.specs.Came.{args_evaluated, args_left, came, evaluated, parts_left}
-use Rattle.pdl_session.proofs.Expressions.{paid_on, pays_fault}
-use Rattle.pdl_session.proofs.Gained.{call_part, called_part, size_in}
-use Rattle.pdl_session.proofs.Evals.{call_is}
-use Rattle.pdl_session.proofs.Facts.{hands_on, first_fault}
-use Rattle.pdl_session.proofs.Targets.{behind_args, called, first_taken}
+use Rattle.pdl_session.proofs.CostExpressions.{paid_on, pays_fault}
+use Rattle.pdl_session.proofs.CameGained.{call_part, called_part, size_in}
+use Rattle.pdl_session.proofs.ArgumentEvals.{call_is}
+use Rattle.pdl_session.proofs.ScopeFacts.{hands_on, first_fault}
+use Rattle.pdl_session.proofs.ArgumentTargets.{behind_args, called, first_taken}
 use Rattle.pdl_session.proofs.target.call_on.Goals as goal
 
 pub returns-in_err-given-clause-value : goal.returns-in_err-given-clause-value

@@ -10,16 +10,16 @@ use Rattle.pdl_machine.specs.Step.{target}
 use Rattle.pdl_machine.specs.Value.{known, value_of}
 use Rattle.pdl_scope.specs.declared.fault.ScopeFault.TheVariants.{Script}
 use Rattle.pdl_scope.specs.Answers.{IsFault}
-use Rattle.pdl_session.proofs.Facts.{hands_on, grows_trans}
+use Rattle.pdl_session.proofs.ScopeFacts.{hands_on, grows_trans}
 use Rattle.pdl_scope.specs.Growth.{grows_refl}
-use Rattle.pdl_session.proofs.Expressions.{args_less, names_live, pays_fault, unmoved_within}
-use Rattle.pdl_session.proofs.Moves.{named_ready, view_refused, viewed_more, views_part}
+use Rattle.pdl_session.proofs.CostExpressions.{args_less, names_live, pays_fault, unmoved_within}
+use Rattle.pdl_session.proofs.MoveLemmas.{named_ready, view_refused, viewed_more, views_part}
 use Rattle.pdl_engine.specs.State.{ready_steps}
 use Rattle.pdl_scope.specs.Scope.{engine_of}
 use Rattle.pdl_scope.specs.Costs.{MovesUpTo}
 use Rattle.pdl_session.specs.Came.{evaluated}
 use Rattle.pdl_session.specs.Costs.{argued_steps, named_steps}
-use Rattle.pdl_session.proofs.Targets.{called, target_more, fault_at}
+use Rattle.pdl_session.proofs.ArgumentTargets.{called, target_more, fault_at}
 use Rattle.pdl_session.proofs.target.target.Goals as goal
 
 pub returns-in-None-clause-value : goal.returns-in-None-clause-value

@@ -1,5 +1,5 @@
 use Rattle.std.proofs.Common.{◌∙◌, arith}
-use Rattle.pdl_session.proofs.Present.{present_at}
+use Rattle.pdl_session.proofs.SlotsPresent.{present_at}
 use Rattle.pdl_session.proofs.watching.has_watcher.Goals as goal
 
 pub returns-then-at-len : goal.returns-then-at-len

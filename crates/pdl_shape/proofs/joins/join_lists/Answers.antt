@@ -1,5 +1,5 @@
 use Rattle.std.proofs.Common.{sym, ◌∙◌}
-use Rattle.pdl_shape.proofs.JoinSteps.{joined_more}
+use Rattle.pdl_shape.proofs.BroadcastSteps.{joined_more}
 use Rattle.pdl_shape.proofs.joins.join_lists.Goals as goal
 
 pub loop-dimension-preserved : goal.loop-dimension-preserved

@@ -1,4 +1,4 @@
-use Rattle.pdl_shape.proofs.JoinSteps.{Joined}
+use Rattle.pdl_shape.proofs.BroadcastSteps.{Joined}
 use Rattle.pdl_shape.proofs.joins.join_lists.Given as goal
 
 abbrev pub invariant-loop-dimension : goal.invariant-loop-dimension

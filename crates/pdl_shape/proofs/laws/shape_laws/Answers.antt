@@ -1,9 +1,9 @@
-use Rattle.pdl_shape.proofs.Broadcasts.{cut_within, broadcasts_join}
-use Rattle.pdl_shape.proofs.Extents.{extent_positive, size_le-extent}
-use Rattle.pdl_shape.proofs.Inside.{places_lie_in_parent}
-use Rattle.pdl_shape.proofs.Positions.{coordinates_within, position_below, position-coordinates, coordinates-position, within-length, quotient_below, extent-drop}
-use Rattle.pdl_shape.proofs.Wholes.{place-whole}
-use Rattle.pdl_shape.proofs.Writes.{length_write, write_given, write_last, write_other}
+use Rattle.pdl_shape.proofs.BroadcastLemmas.{cut_within, broadcasts_join}
+use Rattle.pdl_shape.proofs.ShapeExtents.{extent_positive, size_le-extent}
+use Rattle.pdl_shape.proofs.ShapePlaces.{places_lie_in_parent}
+use Rattle.pdl_shape.proofs.ShapePositions.{coordinates_within, position_below, position-coordinates, coordinates-position, within-length, quotient_below, extent-drop}
+use Rattle.pdl_shape.proofs.TripleWholes.{place-whole}
+use Rattle.pdl_shape.proofs.PlacesWritten.{length_write, write_given, write_last, write_other}
 use Rattle.pdl_shape.proofs.laws.shape_laws.Goals as goal
 
 pub returns-clause-positions : goal.returns-clause-positions

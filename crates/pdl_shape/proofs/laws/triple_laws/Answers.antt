@@ -1,4 +1,4 @@
-use Rattle.pdl_shape.proofs.Wholes.{IsTriple-whole}
+use Rattle.pdl_shape.proofs.TripleWholes.{IsTriple-whole}
 use Rattle.pdl_shape.proofs.laws.triple_laws.Goals as goal
 
 pub returns : goal.returns

@@ -1,5 +1,5 @@
 use Rattle.std.proofs.Common.{rules, FitsSigned, w32, ◌*ℤ◌, to_z, of_z, w64}
-use Rattle.pdl_shape.proofs.Turns.{Turn, turn}
+use Rattle.pdl_shape.proofs.TripleTurns.{Turn, turn}
 use Rattle.pdl_shape.proofs.moving.+moved.Goals as goal
 
 turned : (t : _) (c : goal.After-moved t) → Turn c.args.incs.now c.args.at.now (to_z w64 (of_z w64 c.from.result) *ℤ to_z w64 (of_z w64 c.from-in-Some-Some.result)) c.moved.result

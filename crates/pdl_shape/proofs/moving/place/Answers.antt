@@ -1,7 +1,7 @@
 use Rattle.std.proofs.Common.{ap, sym, subst, ◌∙◌}
 use Rattle.pdl_shape.specs.Shape.{IsWithin}
 use Rattle.pdl_shape.specs.Triple.{Triple, IsTriple, IsPlace, moved, place_of}
-use Rattle.pdl_shape.proofs.Turns.{within_small, place_word, place_natural}
+use Rattle.pdl_shape.proofs.TripleTurns.{within_small, place_word, place_natural}
 use Rattle.pdl_shape.proofs.moving.place.Goals as goal
 
 pub moved-requires-clause-small : goal.moved-requires-clause-small

@@ -5,8 +5,8 @@ use Rattle.std.specs.Int.{w32}
 use Rattle.pdl_shape.specs.Broadcast.{BroadcastsTo, cut_to}
 use Rattle.pdl_shape.specs.Shape.{IsWithin}
 use Rattle.pdl_shape.specs.Triple.{Triple, moved, place_of}
-use Rattle.pdl_shape.proofs.Broadcasts.{cut_within}
-use Rattle.pdl_shape.proofs.Stretching.{stretched_incs, stretching_shows, IsTriple-stretching, listed_more, listed_count, listed_all}
+use Rattle.pdl_shape.proofs.BroadcastLemmas.{cut_within}
+use Rattle.pdl_shape.proofs.TripleStretches.{stretched_incs, stretching_shows, IsTriple-stretching, listed_more, listed_count, listed_all}
 use Rattle.pdl_shape.proofs.stretched.stretched_triple.Goals as goal
 
 pub push_reserved-requires : goal.push_reserved-requires

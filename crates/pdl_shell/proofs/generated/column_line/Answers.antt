@@ -1,7 +1,7 @@
 use Rattle.std.specs.Prelude.{codes, decimal}
 use Rattle.std.proofs.Common.{◌∙◌}
 use Rattle.pdl_machine.specs.Step.{newline}
-use Rattle.pdl_shell.proofs.Texts.{parts_of_six}
+use Rattle.pdl_shell.proofs.SummaryTexts.{parts_of_six}
 use Rattle.pdl_shell.proofs.generated.column_line.Goals as goal
 
 pub returns : goal.returns

@@ -1,5 +1,5 @@
 use Rattle.pdl_shell.proofs.HeadlineLemmas.{ends_quiet, memory_quiet, watcher_rises, source_leaves, refused_read, done_reads, fault_reads, ends_write, memory_writes, all_front, cut_off_front, usage_alone, generating_alone}
-use Rattle.pdl_shell.proofs.Guards.{few_taken, no_part_behind, quiet_undisturbed, others_front}
+use Rattle.pdl_shell.proofs.AnswerGuards.{few_taken, no_part_behind, quiet_undisturbed, others_front}
 use Rattle.pdl_shell.proofs.HeadlineSlotsLemmas.{slots_stay, watchers_stay, none_appears, counts_kept, one_alone, finishing_last}
 use Rattle.pdl_shell.proofs.laws.headline_laws.Goals as goal
 

@@ -1,4 +1,4 @@
-use Rattle.pdl_shell.proofs.WorkedRuns.{worked_statuses}
+use Rattle.pdl_shell.proofs.TwoStatementRuns.{worked_statuses}
 use Rattle.pdl_shell.proofs.laws.worked_statuses.Goals as goal
 
 pub returns : goal.returns

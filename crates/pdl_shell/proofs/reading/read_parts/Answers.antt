@@ -4,7 +4,7 @@ use Rattle.std.proofs.lemmas.List.{length-take}
 use Rattle.std.specs.Io.KnownBytes.{Consumes}
 use Rattle.pdl_io.specs.Counts.{Rose}
 use Rattle.pdl_lemmas.specs.Results.{on_err}
-use Rattle.pdl_shell.proofs.Parts.{took, none_failed, reads_failed, short_failed, at_most_failed, comes_kept, at_most, at_most_short, comes_on, short_parts, fails_parts_short, reads_short, reads_result, reason_of_stop, causes_stopped}
+use Rattle.pdl_shell.proofs.CourseParts.{took, none_failed, reads_failed, short_failed, at_most_failed, comes_kept, at_most, at_most_short, comes_on, short_parts, fails_parts_short, reads_short, reads_result, reason_of_stop, causes_stopped}
 use Rattle.pdl_shell.proofs.reading.read_parts.Goals as goal
 
 pub returns-in-Err-clause-stops : goal.returns-in-Err-clause-stops

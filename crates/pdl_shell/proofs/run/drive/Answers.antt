@@ -1,5 +1,5 @@
-use Rattle.pdl_shell.proofs.Following.{served_first}
-use Rattle.pdl_shell.proofs.Parts.{is_taken, leaves_parts, fails_parts, reads_parts, runs_stopped, causes_of}
+use Rattle.pdl_shell.proofs.CourseFollowed.{served_first}
+use Rattle.pdl_shell.proofs.CourseParts.{is_taken, leaves_parts, fails_parts, reads_parts, runs_stopped, causes_of}
 use Rattle.pdl_shell.proofs.run.drive.Goals as goal
 
 pub read_parts-requires-clause-served : goal.read_parts-requires-clause-served

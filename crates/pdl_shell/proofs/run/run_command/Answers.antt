@@ -1,7 +1,7 @@
 use Rattle.std.proofs.Common.{◌≡◌, Some, sym, ap, refl, ◌∙◌}
 use Rattle.pdl_shell.specs.declared.words.Command.{Command}
 use Rattle.pdl_shell.specs.declared.words.Command.TheVariants.{Run, Generate}
-use Rattle.pdl_shell.proofs.Whole.{answered_by, read_for_a_run}
+use Rattle.pdl_shell.proofs.AnswersWhole.{answered_by, read_for_a_run}
 use Rattle.pdl_shell.proofs.run.run_command.Goals as goal
 
 pub returns-in-Some-Run-clause-answered : goal.returns-in-Some-Run-clause-answered

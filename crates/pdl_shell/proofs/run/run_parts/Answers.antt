@@ -1,5 +1,5 @@
 use Rattle.std.proofs.Common.{sym, ◌∙◌}
-use Rattle.pdl_shell.proofs.Whole.{runs_by}
+use Rattle.pdl_shell.proofs.AnswersWhole.{runs_by}
 use Rattle.pdl_shell.proofs.run.run_parts.Goals as goal
 
 pub returns : goal.returns

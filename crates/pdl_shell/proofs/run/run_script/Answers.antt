@@ -1,4 +1,4 @@
-use Rattle.pdl_shell.proofs.Whole.{answered_run}
+use Rattle.pdl_shell.proofs.AnswersWhole.{answered_run}
 use Rattle.pdl_shell.proofs.run.run_script.Goals as goal
 
 pub returns : goal.returns

@@ -1,5 +1,5 @@
 use Rattle.std.proofs.Common.{refl}
-use Rattle.pdl_shell.proofs.Whole.{answered_by, same_reading, quiet_complete}
+use Rattle.pdl_shell.proofs.AnswersWhole.{answered_by, same_reading, quiet_complete}
 use Rattle.pdl_shell.proofs.run.run_shell.Goals as goal
 
 pub returns-clause-model : goal.returns-clause-model

@@ -1,4 +1,4 @@
-use Rattle.pdl_shell.proofs.Whole.{usage_written, usage_unwritten}
+use Rattle.pdl_shell.proofs.AnswersWhole.{usage_written, usage_unwritten}
 use Rattle.pdl_shell.proofs.run.usage.Goals as goal
 
 pub returns-in-Ok : goal.returns-in-Ok

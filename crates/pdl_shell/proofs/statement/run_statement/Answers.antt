@@ -1,4 +1,4 @@
-use Rattle.pdl_shell.proofs.Ran.{leaves_step, served_step}
+use Rattle.pdl_shell.proofs.RanLemmas.{leaves_step, served_step}
 use Rattle.pdl_shell.proofs.statement.run_statement.Goals as goal
 
 pub returns-clause-ran : goal.returns-clause-ran

@@ -6,10 +6,10 @@ use Rattle.pdl_machine.specs.declared.fault.Fault.{Fault}
 use Rattle.pdl_machine.specs.Reads.{reads, reads_plain}
 use Rattle.pdl_machine.specs.Run.{step_read}
 use Rattle.pdl_session.specs.declared.fault.StepFault.{StepFault}
-use Rattle.pdl_shell.specs.Ran.{Leaves}
+use Rattle.pdl_shell.specs.Ran.{LeavesState}
 use Rattle.pdl_shell.specs.Unread.{AreOfPlain, IsFault}
-use Rattle.pdl_shell.proofs.Plain.{read_as, not_parsed}
-use Rattle.pdl_shell.proofs.Ran.{unread_leaves, unread_served}
+use Rattle.pdl_shell.proofs.UnreadPlain.{read_as, not_parsed}
+use Rattle.pdl_shell.proofs.RanLemmas.{unread_leaves, unread_served}
 use Rattle.pdl_shell.proofs.statement.run_text.Goals as goal
 
 -- the same, of lists that are seen as slices
@@ -25,7 +25,7 @@ returns-in-Ok-clause-ran g c =
     let is : reads c.args.text.now ≡ Ok (statement_of c.in-Ok.statement) =
     of.same ∙ read_as c.reads_law.ensures.plain plain tokens (Ok (statement_of c.in-Ok.statement)) of.are c.in-Ok.ensures.exact in
     let slots = slots_by g.W.Watcher.seen c.args.watchers.now.items in
-    let P : Result StatementTree Fault → Type 0 = λ r. Leaves (step_read c.args.number (present_in slots) c.args.session.now.state r) c.args.session.now.state slots c.run_statement.result c.run_statement.new.session.state c.run_statement.new.out.items (slots_by g.W.Watcher.seen c.run_statement.new.watchers.items) in
+    let P : Result StatementTree Fault → Type 0 = λ r. LeavesState (step_read c.args.number (present_in slots) c.args.session.now.state r) c.args.session.now.state slots c.run_statement.result c.run_statement.new.session.state c.run_statement.new.out.items (slots_by g.W.Watcher.seen c.run_statement.new.watchers.items) in
     subst P (sym is) c.run_statement.ensures.ran
 
 pub returns-in-Err-clause-ran : goal.returns-in-Err-clause-ran

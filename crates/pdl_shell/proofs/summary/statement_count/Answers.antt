@@ -1,5 +1,5 @@
 use Rattle.std.proofs.Common.{sym, ◌∙◌, ap, ◌+◌}
-use Rattle.pdl_shell.proofs.StatementCount.{statement_count-some}
+use Rattle.pdl_shell.proofs.GeneratedCount.{statement_count-some}
 use Rattle.pdl_shell.proofs.summary.statement_count.Goals as goal
 
 pub returns-else-rounds-eq0 : goal.returns-else-rounds-eq0

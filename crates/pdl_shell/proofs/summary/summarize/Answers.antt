@@ -1,4 +1,4 @@
-use Rattle.pdl_shell.proofs.Whole.{summary_written, summary_unwritten}
+use Rattle.pdl_shell.proofs.AnswersWhole.{summary_written, summary_unwritten}
 use Rattle.pdl_shell.proofs.summary.summarize.Goals as goal
 
 pub returns-in-Ok : goal.returns-in-Ok

@@ -1,5 +1,5 @@
 use Rattle.std.proofs.Common.{◌∙◌, ap, length, sum}
-use Rattle.pdl_shell.proofs.Texts.{sums_up}
+use Rattle.pdl_shell.proofs.SummaryTexts.{sums_up}
 use Rattle.pdl_shell.proofs.summary.summary.Goals as goal
 
 pub returns : goal.returns

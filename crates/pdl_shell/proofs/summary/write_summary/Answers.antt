@@ -3,7 +3,7 @@ use Rattle.std.specs.Io.KnownBytes.{Appends}
 use Rattle.pdl_lemmas.specs.Results.{on_err}
 use Rattle.pdl_lemmas.specs.KnownBytes.{appends_kept}
 use Rattle.pdl_shell.specs.Summary.{summary}
-use Rattle.pdl_shell.proofs.Taking.{on_ok, is_prefix-refl}
+use Rattle.pdl_shell.proofs.AnswersTaken.{on_ok, is_prefix-refl}
 use Rattle.pdl_shell.proofs.summary.write_summary.Goals as goal
 
 pub returns-clause-whole : goal.returns-clause-whole

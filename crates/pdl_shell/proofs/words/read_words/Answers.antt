@@ -1,4 +1,4 @@
-use Rattle.pdl_shell.proofs.WordLemmas.{command_of-many}
+use Rattle.pdl_shell.proofs.CommandWords.{command_of-many}
 use Rattle.pdl_shell.proofs.words.read_words.Goals as goal
 
 pub returns-in_default : goal.returns-in_default

@@ -1,6 +1,6 @@
 -- One core dimension more.
 use Rattle.std.proofs.Common.{refl}
-use Rattle.pdl_sig.proofs.Steps.{core_at, pushed}
+use Rattle.pdl_sig.proofs.ResolutionSteps.{core_at, pushed}
 use Rattle.pdl_sig.proofs.cores.add_core.Goals as goal
 
 pub loop-place-preserved : goal.loop-place-preserved

@@ -1,6 +1,6 @@
 use Rattle.std.proofs.Common.{◌+◌, ◌++◌, ap, ap₂, ◌∙◌}
 use Rattle.pdl_sig.specs.Resolution.{core, cores, handed}
-use Rattle.pdl_sig.proofs.Steps.{joined_lists, left, left_found}
+use Rattle.pdl_sig.proofs.ResolutionSteps.{joined_lists, left, left_found}
 use Rattle.pdl_sig.proofs.cores.cores.Goals as goal
 
 pub loop-place-preserved : goal.loop-place-preserved

@@ -3,7 +3,7 @@ use Rattle.std.proofs.Common.{ℕ, List, None, ◌+◌, ◌∷◌, get_or, drop,
 use Rattle.std.proofs.lemmas.List.{at_drop_more}
 use Rattle.std.specs.Prelude.{Option, unwrap_or}
 use Rattle.pdl_sig.specs.Resolution.{sizes_from}
-use Rattle.pdl_sig.proofs.Steps.{pushed}
+use Rattle.pdl_sig.proofs.ResolutionSteps.{pushed}
 use Rattle.pdl_sig.proofs.cores.named_sizes.Goals as goal
 
 pub loop-number-preserved : goal.loop-number-preserved

@@ -1,5 +1,5 @@
 use Rattle.std.proofs.Common.{ℕ, map, refl, ap}
-use Rattle.pdl_sig.proofs.Steps.{pushed, core_at}
+use Rattle.pdl_sig.proofs.ResolutionSteps.{pushed, core_at}
 use Rattle.pdl_sig.proofs.cores.padded.Goals as goal
 
 pub loop-place-preserved : goal.loop-place-preserved

@@ -1,6 +1,6 @@
 use Rattle.std.proofs.Common.{None}
 use Rattle.pdl_sig.specs.Resolution.{highest_from, handed}
-use Rattle.pdl_sig.proofs.Steps.{highest_more}
+use Rattle.pdl_sig.proofs.ResolutionSteps.{highest_more}
 use Rattle.pdl_sig.proofs.inputs.generic_type.Goals as goal
 
 pub loop-place-preserved : goal.loop-place-preserved

@@ -1,6 +1,6 @@
 use Rattle.std.proofs.Common.{◌≡◌, None}
 use Rattle.pdl_sig.specs.Resolution.{highest_from, handed}
-use Rattle.pdl_sig.proofs.Steps.{left}
+use Rattle.pdl_sig.proofs.ResolutionSteps.{left}
 use Rattle.pdl_sig.proofs.inputs.generic_type.Given as goal
 
 abbrev pub invariant-loop-place : goal.invariant-loop-place

@@ -1,4 +1,4 @@
-use Rattle.pdl_sig.proofs.Steps.{Seeks}
+use Rattle.pdl_sig.proofs.ResolutionSteps.{Seeks}
 use Rattle.pdl_sig.proofs.inputs.input.Given as goal
 
 abbrev pub invariant-loop-arg : goal.invariant-loop-arg

@@ -1,7 +1,7 @@
 use Rattle.std.proofs.Common.{List, ℕ, [], length, drop, ap, ap₂, ◌∙◌}
 use Rattle.pdl_shape.specs.Broadcast.{join}
 use Rattle.pdl_sig.specs.Resolution.{joined_with, handed}
-use Rattle.pdl_sig.proofs.Steps.{joined_next, joined_never}
+use Rattle.pdl_sig.proofs.ResolutionSteps.{joined_next, joined_never}
 use Rattle.pdl_sig.proofs.joins.broadcast.Goals as goal
 
 pub returns-in_err-joined-clause-joined : goal.returns-in_err-joined-clause-joined

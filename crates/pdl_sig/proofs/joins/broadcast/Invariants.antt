@@ -1,6 +1,6 @@
 use Rattle.std.proofs.Common.{◌≡◌, ◌≤◌, [], length}
 use Rattle.pdl_sig.specs.Resolution.{joined_with, handed}
-use Rattle.pdl_sig.proofs.Steps.{left}
+use Rattle.pdl_sig.proofs.ResolutionSteps.{left}
 use Rattle.pdl_sig.proofs.joins.broadcast.Given as goal
 
 abbrev pub invariant-loop-place : goal.invariant-loop-place

@@ -1,4 +1,4 @@
-use Rattle.pdl_sig.proofs.Signatures.{only_one}
+use Rattle.pdl_sig.proofs.RefusalAnswers.{only_one}
 use Rattle.pdl_sig.proofs.laws.one_signature.Goals as goal
 
 pub returns : goal.returns

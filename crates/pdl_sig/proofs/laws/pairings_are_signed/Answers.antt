@@ -1,4 +1,4 @@
-use Rattle.pdl_sig.proofs.Readings.{inner_signs, outer_signs, matmult_signs}
+use Rattle.pdl_sig.proofs.KnownReadings.{inner_signs, outer_signs, matmult_signs}
 use Rattle.pdl_sig.proofs.laws.pairings_are_signed.Goals as goal
 
 pub returns : goal.returns

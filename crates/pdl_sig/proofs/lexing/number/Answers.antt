@@ -1,8 +1,8 @@
 use Rattle.std.proofs.Common.{rules, arith, ap, ◌∙◌, take, drop}
 use Rattle.std.specs.Char.{is_ascii_digit}
 use Rattle.std.specs.List.{list_all}
-use Rattle.pdl_sig.proofs.Fronts.{all_front}
-use Rattle.pdl_sig.proofs.Digits.{no_number, large_number, number_found}
+use Rattle.pdl_sig.proofs.GrammarFronts.{all_front}
+use Rattle.pdl_sig.proofs.GrammarDigits.{no_number, large_number, number_found}
 use Rattle.pdl_sig.proofs.lexing.number.Goals as goal
 
 pub returns-then-not-is_number : goal.returns-then-not-is_number

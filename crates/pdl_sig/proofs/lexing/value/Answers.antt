@@ -1,6 +1,6 @@
 use Rattle.std.proofs.Common.{◌+◌, rules, refl, arith}
 use Rattle.pdl_shape.specs.Shape.{extent_limit}
-use Rattle.pdl_sig.proofs.Fronts.{value_more}
+use Rattle.pdl_sig.proofs.GrammarFronts.{value_more}
 use Rattle.pdl_sig.proofs.lexing.value.Goals as goal
 
 pub loop-digit-preserved : goal.loop-digit-preserved

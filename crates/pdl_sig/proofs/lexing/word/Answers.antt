@@ -1,5 +1,5 @@
 use Rattle.std.proofs.Common.{rules, ap, ◌∙◌, take, drop}
-use Rattle.pdl_sig.proofs.Digits.{word_found}
+use Rattle.pdl_sig.proofs.GrammarDigits.{word_found}
 use Rattle.pdl_sig.proofs.lexing.word.Goals as goal
 
 pub returns : goal.returns

@@ -2,8 +2,8 @@
 use Rattle.std.proofs.Common.{◌≡◌, ◌+◌, ◌<◌, ◌≤◌, ◌∷◌, ℕ, List, false, length, drop, rules, arith, ap, sym, subst, ◌∙◌}
 use Rattle.pdl_sig.specs.declared.written.WrittenDim.{WrittenDim}
 use Rattle.pdl_sig.specs.Refusals.{has_name, names_after}
-use Rattle.pdl_sig.proofs.Names.{past_dims}
-use Rattle.pdl_sig.proofs.Steps.{left_at}
+use Rattle.pdl_sig.proofs.RefusalNames.{past_dims}
+use Rattle.pdl_sig.proofs.ResolutionSteps.{left_at}
 use Rattle.pdl_sig.proofs.naming.add_names.Goals as goal
 
 pub returns-then-len-ge-MOST_DIM_NAMES-clause-many : goal.returns-then-len-ge-MOST_DIM_NAMES-clause-many

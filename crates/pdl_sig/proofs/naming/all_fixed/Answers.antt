@@ -2,7 +2,7 @@
 use Rattle.std.proofs.Common.{◌+◌, ◌∷◌, List, ℕ, map, drop, ap, sym, ◌∙◌}
 use Rattle.std.specs.Prelude.{Option}
 use Rattle.pdl_sig.specs.Refusals.{fixed_in}
-use Rattle.pdl_sig.proofs.Steps.{left_at, pushed}
+use Rattle.pdl_sig.proofs.ResolutionSteps.{left_at, pushed}
 use Rattle.pdl_sig.proofs.naming.all_fixed.Goals as goal
 
 pub loop-name-preserved : goal.loop-name-preserved

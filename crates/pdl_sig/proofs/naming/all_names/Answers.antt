@@ -3,8 +3,8 @@ use Rattle.std.proofs.Common.{◌≡◌, ◌+◌, ◌<◌, ◌∷◌, ℕ, List,
 use Rattle.std.specs.Prelude.{IsTrue}
 use Rattle.pdl_sig.specs.declared.written.WrittenArg.{WrittenArg}
 use Rattle.pdl_sig.specs.Refusals.{all_names, names_after}
-use Rattle.pdl_sig.proofs.Names.{past_args}
-use Rattle.pdl_sig.proofs.Steps.{left_at}
+use Rattle.pdl_sig.proofs.RefusalNames.{past_args}
+use Rattle.pdl_sig.proofs.ResolutionSteps.{left_at}
 use Rattle.pdl_sig.proofs.naming.all_names.Goals as goal
 
 pub loop-arg-preserved : goal.loop-arg-preserved

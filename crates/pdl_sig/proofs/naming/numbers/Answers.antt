@@ -2,7 +2,7 @@
 use Rattle.std.proofs.Common.{ℕ, ◌+◌, ◌∷◌, map, drop, ap, sym, ◌∙◌}
 use Rattle.pdl_sig.specs.declared.written.WrittenDim.{WrittenDim}
 use Rattle.pdl_sig.specs.Refusals.{number_of}
-use Rattle.pdl_sig.proofs.Steps.{left_at, pushed}
+use Rattle.pdl_sig.proofs.ResolutionSteps.{left_at, pushed}
 use Rattle.pdl_sig.proofs.naming.numbers.Goals as goal
 
 pub loop-dim-preserved : goal.loop-dim-preserved

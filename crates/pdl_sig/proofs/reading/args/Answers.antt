@@ -1,5 +1,5 @@
 use Rattle.std.proofs.Common.{rules}
-use Rattle.pdl_sig.proofs.Turns.{args_next, args_ended, args_last, args_rest, args_broken, args_out}
+use Rattle.pdl_sig.proofs.SignatureReadingTurns.{args_next, args_ended, args_last, args_rest, args_broken, args_out}
 use Rattle.pdl_sig.proofs.reading.args.Goals as goal
 
 pub returns-in_default : goal.returns-in_default

@@ -1,6 +1,6 @@
 use Rattle.std.proofs.Common.{length}
 use Rattle.pdl_sig.specs.SignatureReading.{args_at}
-use Rattle.pdl_sig.proofs.Turns.{ArgsLeft}
+use Rattle.pdl_sig.proofs.SignatureReadingTurns.{ArgsLeft}
 use Rattle.pdl_sig.proofs.reading.args.Given as goal
 
 abbrev pub invariant-loop-turn : goal.invariant-loop-turn

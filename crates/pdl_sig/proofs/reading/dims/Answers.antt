@@ -1,5 +1,5 @@
 use Rattle.std.proofs.Common.{rules}
-use Rattle.pdl_sig.proofs.Turns.{dims_next, dims_closed, dims_open, dims_broken, dims_out}
+use Rattle.pdl_sig.proofs.SignatureReadingTurns.{dims_next, dims_closed, dims_open, dims_broken, dims_out}
 use Rattle.pdl_sig.proofs.reading.dims.Goals as goal
 
 pub returns-in_default : goal.returns-in_default

@@ -1,6 +1,6 @@
 use Rattle.std.proofs.Common.{length}
 use Rattle.pdl_sig.specs.SignatureReading.{dims_at}
-use Rattle.pdl_sig.proofs.Turns.{DimsLeft}
+use Rattle.pdl_sig.proofs.SignatureReadingTurns.{DimsLeft}
 use Rattle.pdl_sig.proofs.reading.dims.Given as goal
 
 abbrev pub invariant-loop-turn : goal.invariant-loop-turn

@@ -2,8 +2,8 @@ use Rattle.std.proofs.Common.{[], ◌≡◌, false, length, Some, ap, ap₂, sym
 use Rattle.std.specs.List.{list_any}
 use Rattle.pdl_sig.specs.declared.Resolved.{Resolved}
 use Rattle.pdl_sig.specs.Resolution.{Unresolved, inputs, handed, cores, sizes_from, is_unfit, joined_with, named_sizes, resolved_by, resolution, Answers}
-use Rattle.pdl_sig.proofs.Outcomes.{reached}
-use Rattle.pdl_sig.proofs.Solving.{answers_solve}
+use Rattle.pdl_sig.proofs.ResolutionOutcomes.{reached}
+use Rattle.pdl_sig.proofs.SolutionLemmas.{answers_solve}
 use Rattle.pdl_sig.proofs.resolving.resolve.Goals as goal
 
 pub returns : goal.returns

@@ -1,7 +1,7 @@
 use Rattle.std.proofs.Common.{sym, ◌∙◌}
 use Rattle.std.specs.List.{list_any}
 use Rattle.pdl_sig.specs.Resolution.{is_stretched, handed}
-use Rattle.pdl_sig.proofs.Steps.{any_found, any_other}
+use Rattle.pdl_sig.proofs.ResolutionSteps.{any_found, any_other}
 use Rattle.pdl_sig.proofs.shapes.any_stretched.Goals as goal
 
 pub returns-then-branch : goal.returns-then-branch

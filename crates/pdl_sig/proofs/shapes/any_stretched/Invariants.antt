@@ -1,7 +1,7 @@
 use Rattle.std.proofs.Common.{◌≡◌}
 use Rattle.std.specs.List.{list_any}
 use Rattle.pdl_sig.specs.Resolution.{is_stretched, handed}
-use Rattle.pdl_sig.proofs.Steps.{left}
+use Rattle.pdl_sig.proofs.ResolutionSteps.{left}
 use Rattle.pdl_sig.proofs.shapes.any_stretched.Given as goal
 
 abbrev pub invariant-loop-place : goal.invariant-loop-place

@@ -1,5 +1,5 @@
 use Rattle.std.proofs.Common.{◌*◌, min, get_or, refl, ap, ◌∙◌, arith}
-use Rattle.pdl_sig.proofs.Work.{work_more}
+use Rattle.pdl_sig.proofs.ShapeWork.{work_more}
 use Rattle.pdl_sig.proofs.shapes.is_too_much.Goals as goal
 
 pub loop-size-preserved : goal.loop-size-preserved

@@ -1,8 +1,8 @@
 use Rattle.std.proofs.Common.{◌<◌, List, [], length, ap, subst, ◌∙◌, rules}
 use Rattle.pdl_sig.specs.declared.written.WrittenArg.{WrittenArg}
 use Rattle.pdl_sig.specs.Refusals.{all_names, signature_of, is_fixed_again, refusal}
-use Rattle.pdl_sig.proofs.Signatures.{bad_text, too_many, too_many_names, refused, signs}
-use Rattle.pdl_sig.proofs.WellFormed.{well_formed}
+use Rattle.pdl_sig.proofs.RefusalAnswers.{bad_text, too_many, too_many_names, refused, signs}
+use Rattle.pdl_sig.proofs.RefusalWellFormed.{well_formed}
 use Rattle.pdl_sig.proofs.signing.read_signature.Goals as goal
 
 pub returns-in_default-clause-refused : goal.returns-in_default-clause-refused

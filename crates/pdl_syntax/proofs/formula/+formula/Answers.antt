@@ -4,7 +4,7 @@ use Rattle.pdl_elem.specs.Types.{type_named}
 use Rattle.pdl_syntax.specs.Formulas.{is_formula, is_one_formula}
 use Rattle.pdl_syntax.specs.Tree.{none, call}
 use Rattle.pdl_syntax.specs.TreeOf.{tree_of, args_of}
-use Rattle.pdl_syntax.proofs.Walks.{weight, weights, tree_is, no_one_formula}
+use Rattle.pdl_syntax.proofs.TreeOfWalks.{weight, weights, tree_is, no_one_formula}
 use Rattle.pdl_syntax.proofs.formula.+formula.Goals as goal
 
 pub is_formula-is_one_formula-requires : goal.is_formula-is_one_formula-requires

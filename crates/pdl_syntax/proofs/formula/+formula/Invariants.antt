@@ -1,7 +1,7 @@
 use Rattle.std.proofs.Common.{◌+◌}
 use Rattle.pdl_syntax.specs.Tree.{none}
 use Rattle.pdl_syntax.specs.TreeOf.{tree_of, args_of, argument_of}
-use Rattle.pdl_syntax.proofs.Walks.{weight, weights}
+use Rattle.pdl_syntax.proofs.TreeOfWalks.{weight, weights}
 use Rattle.pdl_syntax.proofs.formula.+formula.Given as goal
 
 abbrev pub decreases-is_formula : goal.decreases-is_formula

@@ -1,4 +1,4 @@
-use Rattle.pdl_syntax.proofs.Parsing.{parsed_means}
+use Rattle.pdl_syntax.proofs.ParsedAnswers.{parsed_means}
 use Rattle.pdl_syntax.proofs.laws.parsing_is_the_grammar.Goals as goal
 
 pub returns : goal.returns

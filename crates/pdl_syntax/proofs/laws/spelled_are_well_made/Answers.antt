@@ -1,5 +1,5 @@
-use Rattle.pdl_syntax.proofs.Arrays.{well_made}
-use Rattle.pdl_syntax.proofs.Raggedness.{statement_clean}
+use Rattle.pdl_syntax.proofs.GrammarArrays.{well_made}
+use Rattle.pdl_syntax.proofs.RaggedStatements.{statement_clean}
 use Rattle.pdl_syntax.proofs.laws.spelled_are_well_made.Goals as goal
 
 pub returns : goal.returns

@@ -1,7 +1,7 @@
 use Rattle.std.proofs.Common.{◌∙◌, ap, length, arith, List, subst}
 use Rattle.pdl_lexemes.specs.declared.Lexeme.{Lexeme}
 use Rattle.pdl_syntax.specs.Parsed.{checked_lexemes, IsParsed}
-use Rattle.pdl_syntax.proofs.Parsing.{answers_of, well_made_of, lexemes_length}
+use Rattle.pdl_syntax.proofs.ParsedAnswers.{answers_of, well_made_of, lexemes_length}
 use Rattle.pdl_syntax.proofs.parser.parse_within.Goals as goal
 
 pub read-requires : goal.read-requires

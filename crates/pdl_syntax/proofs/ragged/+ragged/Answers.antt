@@ -3,7 +3,7 @@ use Rattle.pdl_syntax.specs.declared.tree.Arg.{Arg}
 use Rattle.pdl_syntax.specs.Tree.{none, call}
 use Rattle.pdl_syntax.specs.TreeOf.{tree_of, args_of, argument_of}
 use Rattle.pdl_syntax.specs.Ragged.{is_ragged, are_ragged}
-use Rattle.pdl_syntax.proofs.Walks.{weight, weights, weights_at, ragged_from, tree_is}
+use Rattle.pdl_syntax.proofs.TreeOfWalks.{weight, weights, weights_at, ragged_from, tree_is}
 use Rattle.pdl_syntax.proofs.ragged.+ragged.Goals as goal
 
 pub is_ragged-are_ragged-requires : goal.is_ragged-are_ragged-requires

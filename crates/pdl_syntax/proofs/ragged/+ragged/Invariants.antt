@@ -2,7 +2,7 @@ use Rattle.std.proofs.Common.{◌≡◌, ◌+◌, drop}
 use Rattle.pdl_syntax.specs.Tree.{none}
 use Rattle.pdl_syntax.specs.TreeOf.{tree_of, args_of, argument_of}
 use Rattle.pdl_syntax.specs.Ragged.{are_ragged}
-use Rattle.pdl_syntax.proofs.Walks.{weight, weights}
+use Rattle.pdl_syntax.proofs.TreeOfWalks.{weight, weights}
 use Rattle.pdl_syntax.proofs.ragged.+ragged.Given as goal
 
 abbrev pub decreases-is_ragged : goal.decreases-is_ragged

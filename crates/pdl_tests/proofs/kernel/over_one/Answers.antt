@@ -1,7 +1,7 @@
 use Rattle.std.proofs.Common.{◌≡◌, [], ◌∷◌, length, Some, sym, ap, subst, ◌∙◌}
 use Rattle.pdl_sig.specs.Resolution.{inputs}
 use Rattle.pdl_kernel.specs.Runs.{IsNext, Run, with_next}
-use Rattle.pdl_tests.proofs.Handing.{count_is, resolved_is}
+use Rattle.pdl_tests.proofs.ResolutionHanding.{count_is, resolved_is}
 use Rattle.pdl_tests.proofs.kernel.over_one.Goals as goal
 
 pub begun-run-requires : goal.begun-run-requires

@@ -1,4 +1,4 @@
-use Rattle.pdl_watch.proofs.Unchanged.{no_changes}
+use Rattle.pdl_watch.proofs.SlotsUnchanged.{no_changes}
 use Rattle.pdl_watch.proofs.comparing.change_laws.Goals as goal
 
 pub returns : goal.returns

@@ -1,9 +1,9 @@
 use Rattle.pdl_watch.specs.Watched.{told_more}
 use Rattle.pdl_watch.specs.Slots.{ended_where}
-use Rattle.pdl_watch.proofs.Unchanged.{below_self, below_trans}
+use Rattle.pdl_watch.proofs.SlotsUnchanged.{below_self, below_trans}
 use Rattle.pdl_watch.proofs.SlotLemmas.{none_changed, changed_long, stops_short, ends_told_short}
-use Rattle.pdl_watch.proofs.Emptied.{quiet_none, same_told, present_told, present_left, none_emptied, ended_emptied, emptied_told, emptied_twice, emptied_long, told_open, emptied_open}
-use Rattle.pdl_watch.proofs.Counts.{stops_one, ends_one, ended_one}
+use Rattle.pdl_watch.proofs.SlotsEmptied.{quiet_none, same_told, present_told, present_left, none_emptied, ended_emptied, emptied_told, emptied_twice, emptied_long, told_open, emptied_open}
+use Rattle.pdl_watch.proofs.SlotCounts.{stops_one, ends_one, ended_one}
 use Rattle.pdl_watch.proofs.laws.slot_laws.Goals as goal
 
 pub returns-clause-stops : goal.returns-clause-stops

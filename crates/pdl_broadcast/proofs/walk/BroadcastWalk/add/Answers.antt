@@ -1,6 +1,6 @@
 use Rattle.std.proofs.Common.{arith, List, ◌++◌, ◌∷◌, [], ap, ◌∙◌, refl}
 use Rattle.pdl_broadcast.specs.declared.cursors.Cursor.{Cursor}
-use Rattle.pdl_broadcast.proofs.Walking.{added_follows, argument_count, sound_add}
+use Rattle.pdl_broadcast.proofs.WalkLemmas.{added_follows, argument_count, sound_add}
 use Rattle.pdl_broadcast.proofs.walk.BroadcastWalk.add.Goals as goal
 
 pub invariant_of-self-2 : goal.invariant_of-self-2

@@ -1,4 +1,4 @@
-use Rattle.pdl_broadcast.proofs.Walking.{end_is, index_bound}
+use Rattle.pdl_broadcast.proofs.WalkLemmas.{end_is, index_bound}
 use Rattle.pdl_broadcast.proofs.walk.BroadcastWalk.at_end.Goals as goal
 
 pub returns-clause-answer : goal.returns-clause-answer

@@ -1,6 +1,6 @@
 use Rattle.std.proofs.Common.{ap, sym, ◌∙◌}
 use Rattle.pdl_broadcast.specs.Walk.{standing_at}
-use Rattle.pdl_broadcast.proofs.Walking.{going_on, standing_is}
+use Rattle.pdl_broadcast.proofs.WalkLemmas.{going_on, standing_is}
 use Rattle.pdl_broadcast.proofs.walk.BroadcastWalk.coordinates.Goals as goal
 
 pub returns : goal.returns

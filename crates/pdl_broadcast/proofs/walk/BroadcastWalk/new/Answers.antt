@@ -1,5 +1,5 @@
 use Rattle.std.proofs.Common.{◌==◌, length, replicate, ap, ◌∙◌}
-use Rattle.pdl_broadcast.proofs.Walking.{sound_new, walk_new}
+use Rattle.pdl_broadcast.proofs.WalkLemmas.{sound_new, walk_new}
 use Rattle.pdl_broadcast.proofs.walk.BroadcastWalk.new.Goals as goal
 
 pub invariant_of-result : goal.invariant_of-result

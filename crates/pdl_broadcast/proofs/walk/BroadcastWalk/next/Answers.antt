@@ -3,7 +3,7 @@ use Rattle.std.proofs.lemmas.List.{with_items_is}
 use Rattle.std.specs.Vec.{with_items}
 use Rattle.pdl_broadcast.specs.Cursor.{jumped}
 use Rattle.pdl_broadcast.specs.declared.walk.BroadcastWalk.TheInside.{Inside}
-use Rattle.pdl_broadcast.proofs.Walking.{Stepped, Went, going_on, jump_all, sound_jump, step_next, step_rolled, walk_end, walk_jump}
+use Rattle.pdl_broadcast.proofs.WalkLemmas.{Stepped, Went, going_on, jump_all, sound_jump, step_next, step_rolled, walk_end, walk_jump}
 use Rattle.pdl_broadcast.proofs.walk.BroadcastWalk.next.Goals as goal
 use Rattle.pdl_broadcast.proofs.walk.BroadcastWalk.next.Goals.{After-self-then-dimension-len-1}
 

@@ -1,5 +1,5 @@
 use Rattle.std.proofs.Common.{arith}
-use Rattle.pdl_broadcast.proofs.Walking.{argument_bound, argument_is, argument_known, argument_reaches}
+use Rattle.pdl_broadcast.proofs.WalkLemmas.{argument_bound, argument_is, argument_known, argument_reaches}
 use Rattle.pdl_broadcast.proofs.walk.BroadcastWalk.offset.Goals as goal
 
 pub index-requires : goal.index-requires

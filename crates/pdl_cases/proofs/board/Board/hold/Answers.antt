@@ -1,6 +1,6 @@
 use Rattle.std.proofs.Common.{sym, subst}
 use Rattle.pdl_cases.specs.Kept.{AreKept}
-use Rattle.pdl_cases.proofs.Kept.{holding}
+use Rattle.pdl_cases.proofs.KeptLemmas.{holding}
 use Rattle.pdl_cases.proofs.board.Board.hold.Goals as goal
 
 pub returns : goal.returns

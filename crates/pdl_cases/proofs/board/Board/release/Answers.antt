@@ -1,6 +1,6 @@
 use Rattle.std.proofs.Common.{sym, subst}
 use Rattle.pdl_cases.specs.Kept.{AreKept}
-use Rattle.pdl_cases.proofs.Kept.{releasing}
+use Rattle.pdl_cases.proofs.KeptLemmas.{releasing}
 use Rattle.pdl_cases.proofs.board.Board.release.Goals as goal
 
 pub returns : goal.returns

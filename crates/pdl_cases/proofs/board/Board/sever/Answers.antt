@@ -1,6 +1,6 @@
 use Rattle.std.proofs.Common.{sym, subst}
 use Rattle.pdl_world.specs.Sound.{IsLive}
-use Rattle.pdl_cases.proofs.Kept.{stay}
+use Rattle.pdl_cases.proofs.KeptLemmas.{stay}
 use Rattle.pdl_cases.proofs.board.Board.sever.Goals as goal
 
 pub returns-in-Ok : goal.returns-in-Ok

@@ -1,6 +1,6 @@
 use Rattle.std.proofs.Common.{sym, subst, refl}
 use Rattle.pdl_cases.specs.Kept.{AreKept}
-use Rattle.pdl_cases.proofs.Kept.{joined}
+use Rattle.pdl_cases.proofs.KeptLemmas.{joined}
 use Rattle.pdl_cases.proofs.board.Board.view.Goals as goal
 
 pub returns-in_ok-put-in-Ok : goal.returns-in_ok-put-in-Ok

@@ -11,11 +11,11 @@ use Rattle.pdl_nodes.specs.Rows.{has}
 use Rattle.pdl_nodes.specs.Worlds.{world_of}
 use Rattle.pdl_engine.specs.State.{State, TargetIsFresh, TargetWaits}
 use Rattle.pdl_engine.specs.StateOf.{state_of, fresh_among}
-use Rattle.pdl_engine.proofs.Bounds.{target_fresh}
-use Rattle.pdl_engine.proofs.Kept.{beside_alike, below_alike, others_fresh}
-use Rattle.pdl_engine.proofs.Lazy.{target_waits}
-use Rattle.pdl_engine.proofs.Stating.{live_has, root_are, fresh_is, fresh_live, holds_alike}
-use Rattle.pdl_engine.proofs.Tight.{tight_alike}
+use Rattle.pdl_engine.proofs.StateBounds.{target_fresh}
+use Rattle.pdl_engine.proofs.StateKept.{beside_alike, below_alike, others_fresh}
+use Rattle.pdl_engine.proofs.StateLazy.{target_waits}
+use Rattle.pdl_engine.proofs.StateOfWorlds.{live_has, root_are, fresh_is, fresh_live, holds_alike}
+use Rattle.pdl_engine.proofs.LooseTight.{tight_alike}
 use Rattle.pdl_engine.proofs.engine.Engine.assign_part.Goals as goal
 
 pub assign-requires : goal.assign-requires

@@ -6,9 +6,9 @@ use Rattle.pdl_nodes.specs.Row.{Row}
 use Rattle.pdl_nodes.specs.Rows.{has, row_at}
 use Rattle.pdl_nodes.specs.Worlds.{world_of}
 use Rattle.pdl_engine.specs.State.{State, base}
-use Rattle.pdl_engine.proofs.Once.{flag_is}
-use Rattle.pdl_engine.proofs.Bounds.{base_are, places_are}
-use Rattle.pdl_engine.proofs.Stating.{live_has, fresh_is}
+use Rattle.pdl_engine.proofs.ApartOnce.{flag_is}
+use Rattle.pdl_engine.proofs.StateBounds.{base_are, places_are}
+use Rattle.pdl_engine.proofs.StateOfWorlds.{live_has, fresh_is}
 use Rattle.pdl_engine.proofs.engine.Engine.base_repeats.Goals as goal
 
 pub node-node-requires : goal.node-node-requires

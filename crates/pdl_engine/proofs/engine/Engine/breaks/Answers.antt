@@ -1,7 +1,7 @@
 use Rattle.std.proofs.Common.{sym, subst}
 use Rattle.pdl_world.specs.Sound.{IsLive}
 use Rattle.pdl_engine.specs.State.{State}
-use Rattle.pdl_engine.proofs.Stating.{live_has}
+use Rattle.pdl_engine.proofs.StateOfWorlds.{live_has}
 use Rattle.pdl_engine.proofs.engine.Engine.breaks.Goals as goal
 
 pub relaid-requires-clause-live : goal.relaid-requires-clause-live

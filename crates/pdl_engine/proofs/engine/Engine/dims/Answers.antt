@@ -4,7 +4,7 @@ use Rattle.pdl_world.specs.Sound.{IsLive}
 use Rattle.pdl_world.specs.World.{World, dims_in}
 use Rattle.pdl_nodes.specs.Row.{Row}
 use Rattle.pdl_engine.specs.State.{State}
-use Rattle.pdl_engine.proofs.Stating.{live_has}
+use Rattle.pdl_engine.proofs.StateOfWorlds.{live_has}
 use Rattle.pdl_engine.proofs.engine.Engine.dims.Goals as goal
 
 pub node-requires : goal.node-requires

@@ -3,7 +3,7 @@ use Rattle.std.specs.Prelude.{Some}
 use Rattle.pdl_world.specs.Sound.{IsLive}
 use Rattle.pdl_world.specs.World.{World}
 use Rattle.pdl_engine.specs.Foresights.{Foretells, IsForeseen}
-use Rattle.pdl_engine.proofs.Foresights.{apart_stays}
+use Rattle.pdl_engine.proofs.ForesightLemmas.{apart_stays}
 use Rattle.pdl_engine.proofs.engine.Engine.foresee.Goals as goal
 
 pub foreseen_now-requires-clause-live : goal.foreseen_now-requires-clause-live

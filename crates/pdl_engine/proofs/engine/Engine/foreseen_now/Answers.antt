@@ -7,7 +7,7 @@ use Rattle.pdl_world.specs.World.{World}
 use Rattle.pdl_nodes.specs.Rows.{has}
 use Rattle.pdl_engine.specs.Foresights.{Foretells, IsForeseen}
 use Rattle.pdl_engine.specs.State.{State}
-use Rattle.pdl_engine.proofs.Stating.{live_has, fresh_is, root_are}
+use Rattle.pdl_engine.proofs.StateOfWorlds.{live_has, fresh_is, root_are}
 use Rattle.pdl_engine.proofs.engine.Engine.foreseen_now.Goals as goal
 
 pub foresee-requires-clause-order : goal.foresee-requires-clause-order

@@ -6,7 +6,7 @@ use Rattle.pdl_world.specs.World.{World, dims_in}
 use Rattle.pdl_nodes.specs.Rows.{has}
 use Rattle.pdl_engine.specs.Foresights.{Foretells}
 use Rattle.pdl_engine.specs.State.{State}
-use Rattle.pdl_engine.proofs.Stating.{live_has, fresh_is}
+use Rattle.pdl_engine.proofs.StateOfWorlds.{live_has, fresh_is}
 use Rattle.pdl_engine.proofs.engine.Engine.foretell.Goals as goal
 
 pub foretell-requires : goal.foretell-requires

@@ -2,9 +2,9 @@ use Rattle.std.proofs.Common.{◌<◌, ◌^◌, sym, ◌∙◌, ap, subst}
 use Rattle.pdl_world.specs.Sound.{IsLive}
 use Rattle.pdl_engine.specs.Held.{count_at, one_more_at}
 use Rattle.pdl_engine.specs.State.{State}
-use Rattle.pdl_engine.proofs.Helds.{count_is, held_engine, held_state}
-use Rattle.pdl_engine.proofs.Stating.{live_has}
-use Rattle.pdl_engine.proofs.Tight.{tight_more}
+use Rattle.pdl_engine.proofs.HeldLemmas.{count_is, held_engine, held_state}
+use Rattle.pdl_engine.proofs.StateOfWorlds.{live_has}
+use Rattle.pdl_engine.proofs.LooseTight.{tight_more}
 use Rattle.pdl_engine.proofs.engine.Engine.hold.Goals as goal
 
 pub hold-requires : goal.hold-requires

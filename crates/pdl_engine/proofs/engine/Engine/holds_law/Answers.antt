@@ -1,7 +1,7 @@
 use Rattle.std.proofs.Common.{subst}
 use Rattle.pdl_engine.specs.Held.{AllHaveHolds, AreApart, holders}
 use Rattle.pdl_engine.specs.State.{State}
-use Rattle.pdl_engine.proofs.HoldLaws.{apart, have_holds}
+use Rattle.pdl_engine.proofs.HoldLawLemmas.{apart, have_holds}
 use Rattle.pdl_engine.proofs.engine.Engine.holds_law.Goals as goal
 
 pub returns-clause-each : goal.returns-clause-each

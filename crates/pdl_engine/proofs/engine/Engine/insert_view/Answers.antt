@@ -13,10 +13,10 @@ use Rattle.pdl_nodes.specs.Worlds.{world_of}
 use Rattle.pdl_engine.specs.Loose.{IsTight}
 use Rattle.pdl_engine.specs.State.{State, IsLentAs, Joins}
 use Rattle.pdl_engine.specs.StateOf.{state_of, IsEngine}
-use Rattle.pdl_engine.proofs.Growing.{IsGrown, grown_engine, refused_engine, grown_state, new_view, view_grown, view_def, err_state, below_world, no_root}
-use Rattle.pdl_engine.proofs.Lazy.{lent_as}
-use Rattle.pdl_engine.proofs.Stating.{live_has}
-use Rattle.pdl_engine.proofs.Tight.{tight_grown, tight_refused}
+use Rattle.pdl_engine.proofs.StateGrowing.{IsGrown, grown_engine, refused_engine, grown_state, new_view, view_grown, view_def, err_state, below_world, no_root}
+use Rattle.pdl_engine.proofs.StateLazy.{lent_as}
+use Rattle.pdl_engine.proofs.StateOfWorlds.{live_has}
+use Rattle.pdl_engine.proofs.LooseTight.{tight_grown, tight_refused}
 use Rattle.pdl_engine.proofs.engine.Engine.insert_view.Goals as goal
 
 pub node-above-requires : goal.node-above-requires

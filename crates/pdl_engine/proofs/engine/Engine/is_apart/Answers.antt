@@ -5,8 +5,8 @@ use Rattle.pdl_world.specs.World.{World}
 use Rattle.pdl_nodes.specs.Row.{Row}
 use Rattle.pdl_nodes.specs.Rows.{has}
 use Rattle.pdl_engine.specs.State.{State}
-use Rattle.pdl_engine.proofs.Foresights.{roots_differ}
-use Rattle.pdl_engine.proofs.Stating.{live_has, root_are}
+use Rattle.pdl_engine.proofs.ForesightLemmas.{roots_differ}
+use Rattle.pdl_engine.proofs.StateOfWorlds.{live_has, root_are}
 use Rattle.pdl_engine.proofs.engine.Engine.is_apart.Goals as goal
 
 pub node-requires : goal.node-requires

@@ -5,7 +5,7 @@ use Rattle.pdl_world.specs.Sound.{IsLive}
 use Rattle.pdl_world.specs.World.{World}
 use Rattle.pdl_nodes.specs.Worlds.{shape, latest}
 use Rattle.pdl_engine.specs.State.{State}
-use Rattle.pdl_engine.proofs.Stating.{live_has, path_with}
+use Rattle.pdl_engine.proofs.StateOfWorlds.{live_has, path_with}
 use Rattle.pdl_engine.proofs.engine.Engine.is_deep.Goals as goal
 
 pub is_deeper-requires-clause-live : goal.is_deeper-requires-clause-live

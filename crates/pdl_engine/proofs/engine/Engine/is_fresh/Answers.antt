@@ -3,7 +3,7 @@ use Rattle.pdl_world.specs.Sound.{IsLive}
 use Rattle.pdl_world.specs.Swept.{is_listed}
 use Rattle.pdl_world.specs.World.{World}
 use Rattle.pdl_engine.specs.State.{State}
-use Rattle.pdl_engine.proofs.Stating.{live_has, fresh_is}
+use Rattle.pdl_engine.proofs.StateOfWorlds.{live_has, fresh_is}
 use Rattle.pdl_engine.proofs.engine.Engine.is_fresh.Goals as goal
 
 pub is_fresh-requires-clause-live : goal.is_fresh-requires-clause-live

@@ -1,7 +1,7 @@
 use Rattle.std.proofs.Common.{is_some, sym, ◌∙◌, ap}
 use Rattle.pdl_world.specs.World.{look}
 use Rattle.pdl_engine.specs.State.{State}
-use Rattle.pdl_engine.proofs.Stating.{look_has}
+use Rattle.pdl_engine.proofs.StateOfWorlds.{look_has}
 use Rattle.pdl_engine.proofs.engine.Engine.is_live.Goals as goal
 
 pub returns : goal.returns

@@ -5,7 +5,7 @@ use Rattle.pdl_world.specs.Paths.{path}
 use Rattle.pdl_world.specs.Refused.{refusal_at}
 use Rattle.pdl_world.specs.World.{dims_in}
 use Rattle.pdl_nodes.specs.Faults.{Names}
-use Rattle.pdl_engine.proofs.Refusals.{deep_at, names_at}
+use Rattle.pdl_engine.proofs.FaultRefusals.{deep_at, names_at}
 use Rattle.pdl_engine.proofs.engine.Engine.layout_of.Goals as goal
 
 pub returns-then-is_deep-clause-refused : goal.returns-then-is_deep-clause-refused

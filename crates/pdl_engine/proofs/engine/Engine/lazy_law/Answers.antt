@@ -1,6 +1,6 @@
 use Rattle.std.proofs.Common.{subst}
 use Rattle.pdl_engine.specs.State.{State, IsLazy}
-use Rattle.pdl_engine.proofs.Lazy.{is_lazy}
+use Rattle.pdl_engine.proofs.StateLazy.{is_lazy}
 use Rattle.pdl_engine.proofs.engine.Engine.lazy_law.Goals as goal
 
 pub returns : goal.returns

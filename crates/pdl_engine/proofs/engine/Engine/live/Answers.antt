@@ -1,7 +1,7 @@
 use Rattle.std.proofs.Common.{length, sym, ◌∙◌, ap}
 use Rattle.pdl_world.specs.World.{World}
 use Rattle.pdl_engine.specs.State.{State}
-use Rattle.pdl_engine.proofs.Stating.{length_world}
+use Rattle.pdl_engine.proofs.StateOfWorlds.{length_world}
 use Rattle.pdl_engine.proofs.engine.Engine.live.Goals as goal
 
 pub returns : goal.returns

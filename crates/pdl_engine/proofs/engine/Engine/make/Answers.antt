@@ -10,8 +10,8 @@ use Rattle.pdl_nodes.specs.Worlds.{world_of}
 use Rattle.pdl_engine.specs.Loose.{IsTight}
 use Rattle.pdl_engine.specs.State.{State, Joins}
 use Rattle.pdl_engine.specs.StateOf.{state_of, IsEngine}
-use Rattle.pdl_engine.proofs.Growing.{IsGrown, root_grown, grown_engine, refused_engine, grown_state, err_state, below_world, no_root}
-use Rattle.pdl_engine.proofs.Tight.{tight_grown, tight_refused}
+use Rattle.pdl_engine.proofs.StateGrowing.{IsGrown, root_grown, grown_engine, refused_engine, grown_state, err_state, below_world, no_root}
+use Rattle.pdl_engine.proofs.LooseTight.{tight_grown, tight_refused}
 use Rattle.pdl_engine.proofs.engine.Engine.make.Goals as goal
 
 pub insert-requires-clause-new_root : goal.insert-requires-clause-new_root

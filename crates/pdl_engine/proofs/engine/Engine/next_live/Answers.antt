@@ -6,7 +6,7 @@ use Rattle.pdl_nodes.specs.Rows.{from}
 use Rattle.pdl_registry.specs.Numbered.{first_from}
 use Rattle.pdl_engine.specs.Looks.{array_numbers, past}
 use Rattle.pdl_engine.specs.State.{State}
-use Rattle.pdl_engine.proofs.Looks.{from_is, past_small}
+use Rattle.pdl_engine.proofs.LookLemmas.{from_is, past_small}
 use Rattle.pdl_engine.proofs.engine.Engine.next_live.Goals as goal
 
 pub past-requires : goal.past-requires

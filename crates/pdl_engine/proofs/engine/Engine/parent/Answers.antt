@@ -5,7 +5,7 @@ use Rattle.pdl_world.specs.World.{World}
 use Rattle.pdl_nodes.specs.Row.{parent_of}
 use Rattle.pdl_nodes.specs.Worlds.{shape, latest}
 use Rattle.pdl_engine.specs.State.{State}
-use Rattle.pdl_engine.proofs.Stating.{live_has, parent_with, parent_is}
+use Rattle.pdl_engine.proofs.StateOfWorlds.{live_has, parent_with, parent_is}
 use Rattle.pdl_engine.proofs.engine.Engine.parent.Goals as goal
 
 pub node-requires : goal.node-requires

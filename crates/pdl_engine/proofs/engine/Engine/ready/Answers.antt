@@ -9,11 +9,11 @@ use Rattle.pdl_nodes.specs.Outcomes.{waiting_size as rows_waiting_size}
 use Rattle.pdl_nodes.specs.Rows.{row_at, has}
 use Rattle.pdl_engine.specs.State.{State, OthersWait, waiting, waiting_size, outdated}
 use Rattle.pdl_engine.specs.StateOf.{state_of}
-use Rattle.pdl_engine.proofs.Bounds.{outdated_is, waiting_is, size_is}
-use Rattle.pdl_engine.proofs.Kept.{ready_engine, stay_ready, path_state}
-use Rattle.pdl_engine.proofs.Lazy.{others_wait}
-use Rattle.pdl_engine.proofs.Stating.{live_has, fresh_is, holds_alike}
-use Rattle.pdl_engine.proofs.Tight.{tight_alike}
+use Rattle.pdl_engine.proofs.StateBounds.{outdated_is, waiting_is, size_is}
+use Rattle.pdl_engine.proofs.StateKept.{ready_engine, stay_ready, path_state}
+use Rattle.pdl_engine.proofs.StateLazy.{others_wait}
+use Rattle.pdl_engine.proofs.StateOfWorlds.{live_has, fresh_is, holds_alike}
+use Rattle.pdl_engine.proofs.LooseTight.{tight_alike}
 use Rattle.pdl_engine.proofs.engine.Engine.ready.Goals as goal
 
 pub ready-requires-clause-live : goal.ready-requires-clause-live

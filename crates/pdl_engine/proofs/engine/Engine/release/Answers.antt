@@ -5,9 +5,9 @@ use Rattle.pdl_engine.specs.Held.{count_at, one_less_at, held_among, written_bac
 use Rattle.pdl_engine.specs.State.{State}
 use Rattle.pdl_engine.specs.StateOf.{holds_in, state_of}
 use Rattle.pdl_engine.specs.Taken.{after_release}
-use Rattle.pdl_engine.proofs.Helds.{count_is, held_live, held_is, left_engine, left_state}
-use Rattle.pdl_engine.proofs.Tight.{tight_all}
-use Rattle.pdl_engine.proofs.Written.{swept_by, written_is}
+use Rattle.pdl_engine.proofs.HeldLemmas.{count_is, held_live, held_is, left_engine, left_state}
+use Rattle.pdl_engine.proofs.LooseTight.{tight_all}
+use Rattle.pdl_engine.proofs.HeldWritten.{swept_by, written_is}
 use Rattle.pdl_engine.proofs.engine.Engine.release.Goals as goal
 
 pub release-requires-clause-held : goal.release-requires-clause-held

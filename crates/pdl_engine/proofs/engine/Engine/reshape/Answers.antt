@@ -9,9 +9,9 @@ use Rattle.pdl_nodes.specs.Rows.{Rows, has}
 use Rattle.pdl_engine.specs.Held.{ChangesFamily, FamilyIsSettled}
 use Rattle.pdl_engine.specs.State.{State, StayFresh, outdated, waiting, waiting_size}
 use Rattle.pdl_engine.specs.StateOf.{state_of}
-use Rattle.pdl_engine.proofs.Changed.{broken_by, changed_engine, changed_settled, changed_state, refused_fresh, steps_are, rooted_bases, reshaped_sound, reshaped_lent, unchanged_by}
-use Rattle.pdl_engine.proofs.Stating.{live_has}
-use Rattle.pdl_engine.proofs.Tight.{tight_reshaped}
+use Rattle.pdl_engine.proofs.SeveredStates.{broken_by, changed_engine, changed_settled, changed_state, refused_fresh, steps_are, rooted_bases, reshaped_sound, reshaped_lent, unchanged_by}
+use Rattle.pdl_engine.proofs.StateOfWorlds.{live_has}
+use Rattle.pdl_engine.proofs.LooseTight.{tight_reshaped}
 use Rattle.pdl_engine.proofs.engine.Engine.reshape.Goals as goal
 
 pub reshape-requires-clause-live : goal.reshape-requires-clause-live

@@ -1,7 +1,7 @@
 use Rattle.std.proofs.Common.{subst}
 use Rattle.pdl_engine.specs.Resting.{IsResting}
 use Rattle.pdl_engine.specs.State.{State}
-use Rattle.pdl_engine.proofs.Resting.{resting}
+use Rattle.pdl_engine.proofs.RestingStates.{resting}
 use Rattle.pdl_engine.proofs.engine.Engine.resting_law.Goals as goal
 
 pub returns : goal.returns

@@ -5,7 +5,7 @@ use Rattle.pdl_world.specs.World.{World}
 use Rattle.pdl_nodes.specs.Row.{Row}
 use Rattle.pdl_nodes.specs.Rows.{has}
 use Rattle.pdl_engine.specs.State.{State}
-use Rattle.pdl_engine.proofs.Stating.{live_has, root_are}
+use Rattle.pdl_engine.proofs.StateOfWorlds.{live_has, root_are}
 use Rattle.pdl_engine.proofs.engine.Engine.root.Goals as goal
 
 pub node-requires : goal.node-requires

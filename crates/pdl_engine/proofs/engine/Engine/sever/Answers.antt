@@ -12,9 +12,9 @@ use Rattle.pdl_nodes.specs.Rows.{Rows, has, row_at}
 use Rattle.pdl_engine.specs.Held.{ChangesFamily, FamilyIsSettled}
 use Rattle.pdl_engine.specs.State.{State, StayFresh, outdated, waiting, waiting_size}
 use Rattle.pdl_engine.specs.StateOf.{state_of}
-use Rattle.pdl_engine.proofs.Changed.{changed_engine, changed_settled, changed_state, refused_fresh, rooted_bases, root_fresh, steps_are, severed_sound}
-use Rattle.pdl_engine.proofs.Stating.{live_has, root_are}
-use Rattle.pdl_engine.proofs.Tight.{tight_severed}
+use Rattle.pdl_engine.proofs.SeveredStates.{changed_engine, changed_settled, changed_state, refused_fresh, rooted_bases, root_fresh, steps_are, severed_sound}
+use Rattle.pdl_engine.proofs.StateOfWorlds.{live_has, root_are}
+use Rattle.pdl_engine.proofs.LooseTight.{tight_severed}
 use Rattle.pdl_engine.proofs.engine.Engine.sever.Goals as goal
 
 pub sever-requires-clause-live : goal.sever-requires-clause-live

@@ -7,9 +7,9 @@ use Rattle.pdl_nodes.specs.Rows.{has, row_at}
 use Rattle.pdl_nodes.specs.Worlds.{places_seen, world_of}
 use Rattle.pdl_engine.specs.Apart.{LiesApart}
 use Rattle.pdl_engine.specs.State.{State, base}
-use Rattle.pdl_engine.proofs.Bounds.{base_are, places_are}
-use Rattle.pdl_engine.proofs.Once.{once_over}
-use Rattle.pdl_engine.proofs.Stating.{live_has}
+use Rattle.pdl_engine.proofs.StateBounds.{base_are, places_are}
+use Rattle.pdl_engine.proofs.ApartOnce.{once_over}
+use Rattle.pdl_engine.proofs.StateOfWorlds.{live_has}
 use Rattle.pdl_engine.proofs.engine.Engine.shows_once.Goals as goal
 
 pub node-requires : goal.node-requires

@@ -8,8 +8,8 @@ use Rattle.pdl_nodes.specs.Row.{Row}
 use Rattle.pdl_nodes.specs.Worlds.{world_of}
 use Rattle.pdl_engine.specs.Looks.{trans_in}
 use Rattle.pdl_engine.specs.State.{State}
-use Rattle.pdl_engine.proofs.Looks.{trans_is, trans_fits}
-use Rattle.pdl_engine.proofs.Stating.{live_has}
+use Rattle.pdl_engine.proofs.LookLemmas.{trans_is, trans_fits}
+use Rattle.pdl_engine.proofs.StateOfWorlds.{live_has}
 use Rattle.pdl_engine.proofs.engine.Engine.trans.Goals as goal
 
 pub node-requires : goal.node-requires

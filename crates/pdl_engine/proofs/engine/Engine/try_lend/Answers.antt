@@ -5,8 +5,8 @@ use Rattle.pdl_world.specs.World.{World}
 use Rattle.pdl_nodes.specs.Row.{Row}
 use Rattle.pdl_nodes.specs.Rows.{row_at}
 use Rattle.pdl_engine.specs.State.{State, is_fresh, shown_in}
-use Rattle.pdl_engine.proofs.Lending.{lent_reaches, lent_window}
-use Rattle.pdl_engine.proofs.Stating.{live_has, fresh_is}
+use Rattle.pdl_engine.proofs.RowsLent.{lent_reaches, lent_window}
+use Rattle.pdl_engine.proofs.StateOfWorlds.{live_has, fresh_is}
 use Rattle.pdl_engine.proofs.engine.Engine.try_lend.Goals as goal
 
 pub node-node-requires : goal.node-node-requires

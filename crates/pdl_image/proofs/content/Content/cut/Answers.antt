@@ -1,6 +1,6 @@
 use Rattle.std.proofs.Common.{ℕ, ◌+◌, take, drop, ap, ◌∙◌}
 use Rattle.pdl_image.specs.Adding.{kept_numbers}
-use Rattle.pdl_image.proofs.Parts.{cut_is}
+use Rattle.pdl_image.proofs.DumpParts.{cut_is}
 use Rattle.pdl_image.proofs.content.Content.cut.Goals as goal
 
 pub returns : goal.returns

@@ -1,6 +1,6 @@
 use Rattle.std.proofs.Common.{take_all, arith}
 use Rattle.pdl_image.specs.Dump.{mask_of}
-use Rattle.pdl_image.proofs.Masking.{mask_len}
+use Rattle.pdl_image.proofs.DumpMasks.{mask_len}
 use Rattle.pdl_image.proofs.content.Content.marked.Goals as goal
 
 pub invariant_of-result : goal.invariant_of-result

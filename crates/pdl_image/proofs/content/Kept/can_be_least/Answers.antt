@@ -1,7 +1,7 @@
 use Rattle.std.proofs.Common.{◌≡◌, false, All, subst, sym}
 use Rattle.pdl_image.specs.Adding.{kept_numbers}
 use Rattle.pdl_image.specs.Dump.{is_least}
-use Rattle.pdl_image.proofs.Masking.{no_least}
+use Rattle.pdl_image.proofs.DumpMasks.{no_least}
 use Rattle.pdl_image.proofs.content.Kept.can_be_least.Goals as goal
 
 pub returns-in-Marked : goal.returns-in-Marked

@@ -1,7 +1,7 @@
 use Rattle.std.proofs.Common.{ℕ, ◌+◌, ◌≤◌, length, take, drop, arith, ap, subst, sym, ◌∙◌}
 use Rattle.pdl_image.specs.Adding.{kept_numbers}
 use Rattle.pdl_image.specs.Dump.{mask_of}
-use Rattle.pdl_image.proofs.Masking.{mask_len, part_of_mask}
+use Rattle.pdl_image.proofs.DumpMasks.{mask_len, part_of_mask}
 use Rattle.pdl_image.proofs.content.Kept.read.Goals as goal
 
 pub returns-in-Marked : goal.returns-in-Marked

@@ -6,8 +6,8 @@ use Rattle.pdl_choice.specs.Where.{is_set}
 use Rattle.pdl_image.specs.Adding.{Adds}
 use Rattle.pdl_image.specs.Dump.{as_listed}
 use Rattle.pdl_image.specs.Lines.{piece_line}
-use Rattle.pdl_image.proofs.Adding.{adds_none}
-use Rattle.pdl_image.proofs.Filling.{any_listed, given_none, given_some, piece_is}
+use Rattle.pdl_image.proofs.AddingLemmas.{adds_none}
+use Rattle.pdl_image.proofs.DumpFilling.{any_listed, given_none, given_some, piece_is}
 use Rattle.pdl_image.proofs.draft.Draft.add_given.Goals as goal
 
 pub returns-then-not-is_any_given : goal.returns-then-not-is_any_given

@@ -1,7 +1,7 @@
 use Rattle.std.proofs.Common.{◌∷◌, [], subst}
 use Rattle.pdl_image.specs.Adding.{Writes}
 use Rattle.pdl_image.specs.Lines.{kernel_line}
-use Rattle.pdl_image.proofs.Adding.{writes_one}
+use Rattle.pdl_image.proofs.AddingLemmas.{writes_one}
 use Rattle.pdl_image.proofs.draft.Draft.add_kernel.Goals as goal
 
 pub returns : goal.returns

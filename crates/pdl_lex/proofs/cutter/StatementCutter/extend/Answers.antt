@@ -1,5 +1,5 @@
 use Rattle.std.proofs.Common.{arith, refl, take, false-eqb}
-use Rattle.pdl_lex.proofs.Cutting.{extend-quiet}
+use Rattle.pdl_lex.proofs.PiecesCut.{extend-quiet}
 use Rattle.pdl_lex.proofs.cutter.StatementCutter.extend.Goals as goal
 
 pub returns-clause-quiet : goal.returns-clause-quiet

@@ -1,6 +1,6 @@
 use Rattle.std.proofs.Common.{true, false}
 use Rattle.std.proofs.lemmas.Result.{IfOk-weaker}
-use Rattle.pdl_lex.proofs.Cutting.{reached-answered, reached-completed, reached-stream, reached-earliest, reached-line}
+use Rattle.pdl_lex.proofs.PiecesCut.{reached-answered, reached-completed, reached-stream, reached-earliest, reached-line}
 use Rattle.pdl_lex.proofs.cutter.StatementCutter.feed.Goals as goal
 
 pub returns-clause-stream : goal.returns-clause-stream

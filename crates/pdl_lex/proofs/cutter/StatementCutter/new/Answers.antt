@@ -1,5 +1,5 @@
 use Rattle.std.proofs.Common.{true, false}
-use Rattle.pdl_lex.proofs.Cutting.{start-pieces}
+use Rattle.pdl_lex.proofs.PiecesCut.{start-pieces}
 use Rattle.pdl_lex.proofs.cutter.StatementCutter.new.Goals as goal
 
 pub returns-clause-whole : goal.returns-clause-whole

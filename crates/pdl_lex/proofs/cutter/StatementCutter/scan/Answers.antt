@@ -2,7 +2,7 @@ use Rattle.std.proofs.Common.{◌+◌, arith, ap, ◌∙◌, sym, rules, take, l
 use Rattle.std.proofs.lemmas.List.{take_rest}
 use Rattle.pdl_lemmas.specs.Results.{on_err}
 use Rattle.pdl_lex.specs.Steps.{IsQuiet}
-use Rattle.pdl_lex.proofs.Cutting.{quiet-next, quiet-further, failed-at}
+use Rattle.pdl_lex.proofs.PiecesCut.{quiet-next, quiet-further, failed-at}
 use Rattle.pdl_lex.proofs.cutter.StatementCutter.scan.Goals as goal
 
 pub loop-used-preserved : goal.loop-used-preserved

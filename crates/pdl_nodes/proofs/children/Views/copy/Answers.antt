@@ -4,7 +4,7 @@ use Rattle.std.proofs.lemmas.Iterator.Adapters.{items_from_extend}
 use Rattle.std.proofs.lemmas.Iterator.Consumers.{YieldsList-from_copied, YieldsList-from_rest}
 use Rattle.std.proofs.lemmas.Result.{on_ok_weaker}
 use Rattle.pdl_nodes.specs.Children.{has_number, numbers_of}
-use Rattle.pdl_nodes.proofs.Newest.{put_beside}
+use Rattle.pdl_nodes.proofs.ChildrenNewest.{put_beside}
 use Rattle.pdl_nodes.proofs.children.Views.copy.Goals as goal
 use Rattle.pdl_nodes.proofs.children.Views.copy.Goals.{in-Some+in_ok-put-in-Some, in-None}
 

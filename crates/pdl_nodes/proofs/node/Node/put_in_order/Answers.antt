@@ -1,6 +1,6 @@
 use Rattle.std.proofs.Common.{Some, ℤ, List, ◌∙◌, ap}
 use Rattle.pdl_shape.specs.Shape.{size_of}
-use Rattle.pdl_nodes.proofs.Moving.{from_is}
+use Rattle.pdl_nodes.proofs.SpotsMoved.{from_is}
 use Rattle.pdl_nodes.proofs.node.Node.put_in_order.Goals as goal
 
 pub returns-clause-value : goal.returns-clause-value

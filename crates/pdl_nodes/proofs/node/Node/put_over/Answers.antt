@@ -3,7 +3,7 @@ use Rattle.pdl_shape.specs.Places.{write}
 use Rattle.pdl_nodes.specs.Assigned.{entry}
 use Rattle.pdl_nodes.specs.Placed.{placed, placed_by}
 use Rattle.pdl_nodes.specs.Spots.{spots}
-use Rattle.pdl_nodes.proofs.Moving.{route_is}
+use Rattle.pdl_nodes.proofs.SpotsMoved.{route_is}
 use Rattle.pdl_nodes.proofs.node.Node.put_over.Goals as goal
 
 pub returns-in-None-clause-value : goal.returns-in-None-clause-value

@@ -1,6 +1,6 @@
 use Rattle.std.proofs.Common.{ℤ, List, ◌∙◌, ap}
 use Rattle.pdl_nodes.specs.Assigned.{seen}
-use Rattle.pdl_nodes.proofs.Moving.{each_is, route_is}
+use Rattle.pdl_nodes.proofs.SpotsMoved.{each_is, route_is}
 use Rattle.pdl_nodes.proofs.node.Node.put_through.Goals as goal
 
 pub returns-clause-value : goal.returns-clause-value

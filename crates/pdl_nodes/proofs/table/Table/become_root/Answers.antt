@@ -3,11 +3,11 @@ use Rattle.pdl_nodes.specs.Renewed.{rooted_in}
 use Rattle.pdl_nodes.specs.Row.{Row, parent_of}
 use Rattle.pdl_nodes.specs.Table.{rows_of}
 use Rattle.pdl_nodes.proofs.table.Table.become_root.Goals as goal
-use Rattle.pdl_nodes.proofs.Calls.{has_key, node_is, changed_one, table_falls}
-use Rattle.pdl_nodes.proofs.Counted.{counted_rooted, counted_same, parent_noted}
-use Rattle.pdl_nodes.proofs.RenewLoop.{rooted_here, rooted_others}
-use Rattle.pdl_nodes.proofs.Moved.{listed_rooted}
-use Rattle.pdl_nodes.proofs.Listing.{one_listed}
+use Rattle.pdl_nodes.proofs.TableCalls.{has_key, node_is, changed_one, table_falls}
+use Rattle.pdl_nodes.proofs.ChildrenCounted.{counted_rooted, counted_same, parent_noted}
+use Rattle.pdl_nodes.proofs.RenewedLoop.{rooted_here, rooted_others}
+use Rattle.pdl_nodes.proofs.MarkedMoved.{listed_rooted}
+use Rattle.pdl_nodes.proofs.MarkedListing.{one_listed}
 
 pub index-key-requires : goal.index-key-requires
 index-key-requires c = has_key c.args.self.now c.self.inside.keys c.self.inside.nodes c.args.id c.self.view_is c.self.invariant.0.0 c.requires.live

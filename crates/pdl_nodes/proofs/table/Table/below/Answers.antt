@@ -1,6 +1,6 @@
 use Rattle.std.proofs.Common.{◌||◌, sym, ◌∙◌, ap, subst}
 use Rattle.pdl_nodes.specs.Children.{has_number, is_view}
-use Rattle.pdl_nodes.proofs.Finding.{IsPopped, IsSearch, search_begins, search_goes, search_smaller}
+use Rattle.pdl_nodes.proofs.ChildrenFound.{IsPopped, IsSearch, search_begins, search_goes, search_smaller}
 use Rattle.pdl_nodes.proofs.table.Table.below.Goals as goal
 
 pub loop-next-init : goal.loop-next-init

@@ -1,5 +1,5 @@
 use Rattle.pdl_nodes.proofs.table.Table.below.Given as goal
-use Rattle.pdl_nodes.proofs.Finding.{IsSearch, numbers_left}
+use Rattle.pdl_nodes.proofs.ChildrenFound.{IsSearch, numbers_left}
 
 abbrev pub invariant-loop-next : goal.invariant-loop-next
 invariant-loop-next l = IsSearch l.fn.self l.id l.below.items l.next l.known.keys

@@ -3,7 +3,7 @@ use Rattle.std.proofs.lemmas.Result.{on_ok_weaker}
 use Rattle.pdl_nodes.specs.Children.{has_number}
 use Rattle.pdl_nodes.specs.Table.{rows_of}
 use Rattle.pdl_nodes.proofs.table.Table.copy_views.Goals as goal
-use Rattle.pdl_nodes.proofs.Counted.{counted_same}
+use Rattle.pdl_nodes.proofs.ChildrenCounted.{counted_same}
 
 pub returns : goal.returns
 returns c = on_ok_weaker c.copy_views.result

@@ -7,10 +7,10 @@ use Rattle.pdl_nodes.specs.Changes.{fill_in}
 use Rattle.pdl_nodes.specs.Marked.{AreListed, listed}
 use Rattle.pdl_nodes.specs.Table.{rows_of}
 use Rattle.pdl_nodes.proofs.table.Table.fill.Goals as goal
-use Rattle.pdl_nodes.proofs.Calls.{has_key, node_is, changed_one}
-use Rattle.pdl_nodes.proofs.Counted.{counted_each}
-use Rattle.pdl_nodes.proofs.Listing.{table_one, listed_filled, listed_stays}
-use Rattle.pdl_nodes.proofs.Marks.{fill_here, fill_others}
+use Rattle.pdl_nodes.proofs.TableCalls.{has_key, node_is, changed_one}
+use Rattle.pdl_nodes.proofs.ChildrenCounted.{counted_each}
+use Rattle.pdl_nodes.proofs.MarkedListing.{table_one, listed_filled, listed_stays}
+use Rattle.pdl_nodes.proofs.ChangesMarks.{fill_here, fill_others}
 
 pub index-key-requires : goal.index-key-requires
 index-key-requires c = has_key c.args.self.now c.self.inside.keys c.self.inside.nodes c.args.id c.self.view_is c.self.invariant.0.0 c.requires.live

@@ -4,9 +4,9 @@ use Rattle.pdl_nodes.specs.Marked.{AreListed}
 use Rattle.pdl_nodes.specs.Rows.{Rows}
 use Rattle.pdl_nodes.specs.Table.{rows_of}
 use Rattle.pdl_nodes.proofs.table.Table.insert.Goals as goal
-use Rattle.pdl_nodes.proofs.Calls.{joined, keys_below, unchanged, vacant, filled, table_same}
-use Rattle.pdl_nodes.proofs.Counted.{counted_joined, counted_noted, counted_same, none_noted}
-use Rattle.pdl_nodes.proofs.Listing.{listed_joined}
+use Rattle.pdl_nodes.proofs.TableCalls.{joined, keys_below, unchanged, vacant, filled, table_same}
+use Rattle.pdl_nodes.proofs.ChildrenCounted.{counted_joined, counted_noted, counted_same, none_noted}
+use Rattle.pdl_nodes.proofs.MarkedListing.{listed_joined}
 
 pub make_room-requires : goal.make_room-requires
 make_room-requires c = record {

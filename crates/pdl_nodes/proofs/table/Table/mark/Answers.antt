@@ -4,8 +4,8 @@ use Rattle.pdl_nodes.specs.Rows.{Rows, each, has, row_at}
 use Rattle.pdl_nodes.specs.Changes.{mark_in}
 use Rattle.pdl_nodes.specs.Table.{rows_of}
 use Rattle.pdl_nodes.proofs.table.Table.mark.Goals as goal
-use Rattle.pdl_nodes.proofs.Calls.{has_key}
-use Rattle.pdl_nodes.proofs.Counted.{counted_each}
+use Rattle.pdl_nodes.proofs.TableCalls.{has_key}
+use Rattle.pdl_nodes.proofs.ChildrenCounted.{counted_each}
 
 pub index-key-requires : goal.index-key-requires
 index-key-requires c = has_key c.args.self.now c.self.inside.keys c.self.inside.nodes c.args.base c.self.view_is c.self.invariant.0.0 c.requires.live

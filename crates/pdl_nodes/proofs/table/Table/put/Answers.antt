@@ -11,10 +11,10 @@ use Rattle.pdl_nodes.specs.Row.{Row, goal_of, is_buffered}
 use Rattle.pdl_nodes.specs.Rows.{each, has}
 use Rattle.pdl_nodes.specs.Table.{rows_of}
 use Rattle.pdl_nodes.specs.declared.node.Shown.{Shown}
-use Rattle.pdl_nodes.proofs.Calls.{has_key, node_is}
-use Rattle.pdl_nodes.proofs.Counted.{counted_each}
-use Rattle.pdl_nodes.proofs.Liftings.{IsPutBack}
-use Rattle.pdl_nodes.proofs.Writes.{base_live, into_buffered, into_live, into_row, into_ty, into_written, places_back, put_is}
+use Rattle.pdl_nodes.proofs.TableCalls.{has_key, node_is}
+use Rattle.pdl_nodes.proofs.ChildrenCounted.{counted_each}
+use Rattle.pdl_nodes.proofs.TableLiftings.{IsPutBack}
+use Rattle.pdl_nodes.proofs.RowWrites.{base_live, into_buffered, into_live, into_row, into_ty, into_written, places_back, put_is}
 use Rattle.pdl_nodes.proofs.table.Table.put.Goals as goal
 
 pub index-base-requires : goal.index-base-requires

@@ -6,11 +6,11 @@ use Rattle.pdl_nodes.specs.Rows.{row_at, each}
 use Rattle.pdl_nodes.specs.Changes.{kept_in}
 use Rattle.pdl_nodes.specs.Table.{rows_of}
 use Rattle.pdl_nodes.specs.Worlds.{places_seen}
-use Rattle.pdl_nodes.proofs.FamilyLemmas.{latest_some}
+use Rattle.pdl_nodes.proofs.WorldFamilies.{latest_some}
 use Rattle.pdl_nodes.proofs.table.Table.put_back.Goals as goal
-use Rattle.pdl_nodes.proofs.Calls.{has_key, node_is}
-use Rattle.pdl_nodes.proofs.Counted.{counted_each}
-use Rattle.pdl_nodes.proofs.Liftings.{IsPutBack, known_or, liftable, lifted_root, root_written, back_type, put_back}
+use Rattle.pdl_nodes.proofs.TableCalls.{has_key, node_is}
+use Rattle.pdl_nodes.proofs.ChildrenCounted.{counted_each}
+use Rattle.pdl_nodes.proofs.TableLiftings.{IsPutBack, known_or, liftable, lifted_root, root_written, back_type, put_back}
 
 pub index-key-requires : goal.index-key-requires
 index-key-requires g c = has_key c.args.self.now c.self.inside.keys c.self.inside.nodes c.args.id c.self.view_is c.self.invariant.0.0 (liftable c.args.self.now c.args.root c.args.id c.requires.order c.requires.known c.requires.root c.requires.waits).live

@@ -13,13 +13,13 @@ use Rattle.pdl_nodes.specs.Table.{IsTable, rows_of}
 use Rattle.pdl_nodes.specs.Worlds.{places_seen}
 use Rattle.pdl_nodes.specs.declared.node.Goal.TheVariants.{Root}
 use Rattle.pdl_nodes.proofs.table.Table.put_root.Goals as goal
-use Rattle.pdl_nodes.proofs.Calls.{has_key, node_is, changed_one}
-use Rattle.pdl_nodes.proofs.Counted.{counted_each}
-use Rattle.pdl_nodes.proofs.Finds.{each_has, each_at}
-use Rattle.pdl_nodes.proofs.Listing.{one_kept}
-use Rattle.pdl_nodes.proofs.Marks.{kept_here, kept_others}
-use Rattle.pdl_nodes.proofs.Origins.{root_buffered}
-use Rattle.pdl_nodes.proofs.OverBases.{root_in_order}
+use Rattle.pdl_nodes.proofs.TableCalls.{has_key, node_is, changed_one}
+use Rattle.pdl_nodes.proofs.ChildrenCounted.{counted_each}
+use Rattle.pdl_nodes.proofs.RowFinds.{each_has, each_at}
+use Rattle.pdl_nodes.proofs.MarkedListing.{one_kept}
+use Rattle.pdl_nodes.proofs.ChangesMarks.{kept_here, kept_others}
+use Rattle.pdl_nodes.proofs.RowOrigins.{root_buffered}
+use Rattle.pdl_nodes.proofs.WorldsOverBases.{root_in_order}
 use Rattle.std.proofs.lemmas.Bool.{ne_eqb, eq-eqb}
 
 -- what a root keeps once values are put into it in order, and the rows then

@@ -2,7 +2,7 @@ use Rattle.std.proofs.Common.{◌≡◌, ◌+◌, get_or, drop, [], ◌∷◌, s
 use Rattle.std.proofs.lemmas.List.{drop_all, drop_more}
 use Rattle.pdl_nodes.specs.Below.{AreBelow}
 use Rattle.pdl_nodes.specs.Renewed.{Layouts}
-use Rattle.pdl_nodes.proofs.Relaying.{IsOn, next_on, on_begins, on_ends, on_goes, relaid_allows}
+use Rattle.pdl_nodes.proofs.RelayingLemmas.{IsOn, next_on, on_begins, on_ends, on_goes, relaid_allows}
 use Rattle.pdl_nodes.proofs.table.Table.relaid.Goals as goal
 
 pub loop-view-init : goal.loop-view-init

@@ -13,7 +13,7 @@ use Rattle.pdl_nodes.specs.Row.{Row}
 use Rattle.pdl_nodes.specs.Rows.{row_at}
 use Rattle.pdl_nodes.specs.Sized.{IsLayout}
 use Rattle.pdl_nodes.specs.Worlds.{world_of}
-use Rattle.pdl_nodes.proofs.Relaying.{fault_breaks, is_there, new_dims_below, relaying_aside, relaying_more, well_formed_at}
+use Rattle.pdl_nodes.proofs.RelayingLemmas.{fault_breaks, is_there, new_dims_below, relaying_aside, relaying_more, well_formed_at}
 use Rattle.pdl_nodes.proofs.table.Table.relay.Goals as goal
 
 pub returns-in_default-new_dims-clause-after : goal.returns-in_default-new_dims-clause-after

@@ -6,11 +6,11 @@ use Rattle.pdl_nodes.specs.Rows.{Rows, has, row_at}
 use Rattle.pdl_nodes.specs.Children.{AreCounted}
 use Rattle.pdl_nodes.specs.Table.{IsTable, rows_of}
 use Rattle.pdl_nodes.proofs.table.Table.remove.Goals as goal
-use Rattle.pdl_nodes.proofs.Calls.{node_is, gone, gone_table, is_there, seen, table_falls}
-use Rattle.pdl_nodes.proofs.Counted.{counted_gone, counted_same, parent_noted}
-use Rattle.pdl_nodes.proofs.Listing.{listed_gone}
-use Rattle.pdl_nodes.proofs.Rests.{without_none}
-use Rattle.pdl_nodes.proofs.Shapes.{past_at}
+use Rattle.pdl_nodes.proofs.TableCalls.{node_is, gone, gone_table, is_there, seen, table_falls}
+use Rattle.pdl_nodes.proofs.ChildrenCounted.{counted_gone, counted_same, parent_noted}
+use Rattle.pdl_nodes.proofs.MarkedListing.{listed_gone}
+use Rattle.pdl_nodes.proofs.RowRests.{without_none}
+use Rattle.pdl_nodes.proofs.RowShapes.{past_at}
 
 pub returns-in_default-clause-rows : goal.returns-in_default-clause-rows
 returns-in_default-clause-rows c =

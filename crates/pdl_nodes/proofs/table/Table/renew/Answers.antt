@@ -2,8 +2,8 @@ use Rattle.std.proofs.Common.{◌≡◌, ℕ, ◌+◌, true, false, get_or, drop
 use Rattle.std.proofs.lemmas.List.{drop_all, drop_more}
 use Rattle.pdl_nodes.specs.Renewed.{renew}
 use Rattle.pdl_nodes.specs.Rows.{Rows, has, row_at}
-use Rattle.pdl_nodes.proofs.RenewLoop.{AreLeft, IsRenewing, can_next, left_goes, renewing_begins, renewing_done, renewing_goes, renewing_live, rows_left}
-use Rattle.pdl_nodes.proofs.RenewOrder.{none_marked}
+use Rattle.pdl_nodes.proofs.RenewedLoop.{AreLeft, IsRenewing, can_next, left_goes, renewing_begins, renewing_done, renewing_goes, renewing_live, rows_left}
+use Rattle.pdl_nodes.proofs.RenewLawOrder.{none_marked}
 use Rattle.pdl_nodes.proofs.table.Table.renew.Goals as goal
 
 pub loop-view-init : goal.loop-view-init

@@ -1,6 +1,6 @@
 use Rattle.std.proofs.Common.{drop}
 use Rattle.pdl_nodes.proofs.table.Table.renew.Given as goal
-use Rattle.pdl_nodes.proofs.RenewLoop.{AreLeft, IsRenewing}
+use Rattle.pdl_nodes.proofs.RenewedLoop.{AreLeft, IsRenewing}
 
 abbrev pub invariant-loop-view : goal.invariant-loop-view
 invariant-loop-view l =

@@ -4,11 +4,11 @@ use Rattle.pdl_nodes.specs.Renewed.{layout_at, renewed_in, with_layout}
 use Rattle.pdl_nodes.specs.Row.{Row, parent_of, shown_of}
 use Rattle.pdl_nodes.specs.Rows.{row_at}
 use Rattle.pdl_nodes.specs.Table.{rows_of}
-use Rattle.pdl_nodes.proofs.Calls.{has_key, node_is, changed_one, table_falls}
-use Rattle.pdl_nodes.proofs.Counted.{counted_each, renewed_parent}
-use Rattle.pdl_nodes.proofs.Listing.{one_listed}
-use Rattle.pdl_nodes.proofs.Moved.{listed_renewed}
-use Rattle.pdl_nodes.proofs.RenewLoop.{derives_live, derives_laid, none_renewed, renewed_by, renewed_others, same_shown}
+use Rattle.pdl_nodes.proofs.TableCalls.{has_key, node_is, changed_one, table_falls}
+use Rattle.pdl_nodes.proofs.ChildrenCounted.{counted_each, renewed_parent}
+use Rattle.pdl_nodes.proofs.MarkedListing.{one_listed}
+use Rattle.pdl_nodes.proofs.MarkedMoved.{listed_renewed}
+use Rattle.pdl_nodes.proofs.RenewedLoop.{derives_live, derives_laid, none_renewed, renewed_by, renewed_others, same_shown}
 use Rattle.pdl_nodes.proofs.table.Table.renew_one.Goals as goal
 
 pub returns-in_default-clause-rows : goal.returns-in_default-clause-rows

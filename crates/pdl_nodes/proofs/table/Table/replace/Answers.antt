@@ -5,12 +5,12 @@ use Rattle.pdl_nodes.specs.Row.{Row, is_buffered}
 use Rattle.pdl_nodes.specs.Rows.{Rows, each, has, row_at}
 use Rattle.pdl_nodes.specs.Table.{rows_of}
 use Rattle.pdl_nodes.proofs.table.Table.replace.Goals as goal
-use Rattle.pdl_nodes.proofs.Calls.{has_key, node_is, changed_one}
-use Rattle.pdl_nodes.proofs.Counted.{counted_each}
-use Rattle.pdl_nodes.proofs.Finds.{each_has, each_at}
-use Rattle.pdl_nodes.proofs.Listing.{one_kept}
-use Rattle.pdl_nodes.proofs.Marks.{kept_here, kept_others}
-use Rattle.pdl_nodes.proofs.Origins.{root_buffered}
+use Rattle.pdl_nodes.proofs.TableCalls.{has_key, node_is, changed_one}
+use Rattle.pdl_nodes.proofs.ChildrenCounted.{counted_each}
+use Rattle.pdl_nodes.proofs.RowFinds.{each_has, each_at}
+use Rattle.pdl_nodes.proofs.MarkedListing.{one_kept}
+use Rattle.pdl_nodes.proofs.ChangesMarks.{kept_here, kept_others}
+use Rattle.pdl_nodes.proofs.RowOrigins.{root_buffered}
 
 pub index-key-requires : goal.index-key-requires
 index-key-requires c = has_key c.args.self.now c.self.inside.keys c.self.inside.nodes c.args.id c.self.view_is c.self.invariant.0.0 c.requires.root.0

@@ -2,10 +2,10 @@ use Rattle.std.proofs.Common.{◌∙◌, refl}
 use Rattle.pdl_nodes.specs.Changes.{wait_in}
 use Rattle.pdl_nodes.specs.Table.{rows_of}
 use Rattle.pdl_nodes.proofs.table.Table.set_waiting.Goals as goal
-use Rattle.pdl_nodes.proofs.Calls.{has_key, changed_one}
-use Rattle.pdl_nodes.proofs.Counted.{counted_each}
-use Rattle.pdl_nodes.proofs.Listing.{one_kept}
-use Rattle.pdl_nodes.proofs.Marks.{wait_here, wait_others}
+use Rattle.pdl_nodes.proofs.TableCalls.{has_key, changed_one}
+use Rattle.pdl_nodes.proofs.ChildrenCounted.{counted_each}
+use Rattle.pdl_nodes.proofs.MarkedListing.{one_kept}
+use Rattle.pdl_nodes.proofs.ChangesMarks.{wait_here, wait_others}
 
 pub index-key-requires : goal.index-key-requires
 index-key-requires c = has_key c.args.self.now c.self.inside.keys c.self.inside.nodes c.args.id c.self.view_is c.self.invariant.0.0 c.requires.live

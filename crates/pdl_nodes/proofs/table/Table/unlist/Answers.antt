@@ -1,5 +1,5 @@
 use Rattle.pdl_nodes.specs.Table.{rows_of}
-use Rattle.pdl_nodes.proofs.Moved.{listed_unlisted}
+use Rattle.pdl_nodes.proofs.MarkedMoved.{listed_unlisted}
 use Rattle.pdl_nodes.proofs.table.Table.unlist.Goals as goal
 
 pub invariant_of-self : goal.invariant_of-self

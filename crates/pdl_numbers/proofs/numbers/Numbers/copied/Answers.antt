@@ -2,7 +2,7 @@
 use Rattle.std.proofs.Common.{◌≡◌, ℕ, ◌<◌, ℤ, List, length, take, drop, arith, ap, ◌∙◌}
 use Rattle.pdl_lemmas.specs.Lists.{take_written}
 use Rattle.pdl_numbers.specs.Numbers.{elements_in}
-use Rattle.pdl_numbers.proofs.Moved.{kept_more}
+use Rattle.pdl_numbers.proofs.TypedParts.{kept_more}
 use Rattle.pdl_numbers.proofs.numbers.Numbers.copied.Goals as goal
 
 pub loop-done-preserved : goal.loop-done-preserved

@@ -4,8 +4,8 @@ use Rattle.std.specs.Prelude.{◌-◌, Option}
 use Rattle.pdl_lemmas.specs.Lists.{take_written}
 use Rattle.pdl_shape.specs.Places.{element_at, read}
 use Rattle.pdl_numbers.specs.Numbers.{elements_in}
-use Rattle.pdl_numbers.proofs.Lists.{block_map}
-use Rattle.pdl_numbers.proofs.Moved.{kept_more}
+use Rattle.pdl_numbers.proofs.PlaceLists.{block_map}
+use Rattle.pdl_numbers.proofs.TypedParts.{kept_more}
 use Rattle.pdl_numbers.proofs.numbers.Numbers.gathered.Goals as goal
 
 pub loop-done-preserved : goal.loop-done-preserved

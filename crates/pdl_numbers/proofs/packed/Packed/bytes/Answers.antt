@@ -2,7 +2,7 @@
 use Rattle.std.proofs.Common.{ap, ◌∙◌}
 use Rattle.std.specs.List.{flat_map}
 use Rattle.pdl_numbers.specs.Bytes.{bytes_of}
-use Rattle.pdl_numbers.proofs.Bytes.{bytes_are}
+use Rattle.pdl_numbers.proofs.ByteLemmas.{bytes_are}
 use Rattle.pdl_numbers.proofs.packed.Packed.bytes.Goals as goal
 
 pub returns : goal.returns

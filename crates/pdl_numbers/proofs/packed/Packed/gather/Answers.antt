@@ -1,6 +1,6 @@
 -- All numbers are those at their positions.
 use Rattle.pdl_numbers.specs.Shown.{shown_through}
-use Rattle.pdl_numbers.proofs.Lists.{read_is}
+use Rattle.pdl_numbers.proofs.PlaceLists.{read_is}
 use Rattle.pdl_numbers.proofs.packed.Packed.gather.Goals as goal
 
 pub returns : goal.returns

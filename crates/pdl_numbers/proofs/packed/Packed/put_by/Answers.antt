@@ -6,7 +6,7 @@ use Rattle.std.specs.List.{range_with_len}
 use Rattle.std.specs.Prelude.{Option, None}
 use Rattle.std.proofs.lemmas.List.FromFn.{length-map-range_with_len, get_or-map-range_with_len}
 use Rattle.pdl_shape.specs.Places.{put, write}
-use Rattle.pdl_numbers.proofs.Lists.{write_more, write_done}
+use Rattle.pdl_numbers.proofs.PlaceLists.{write_more, write_done}
 use Rattle.pdl_numbers.proofs.packed.Packed.put_by.Goals as goal
 
 pub loop-i-preserved : goal.loop-i-preserved

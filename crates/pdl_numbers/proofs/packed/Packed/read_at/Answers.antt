@@ -5,7 +5,7 @@ use Rattle.pdl_elem.specs.Types.{InRange}
 use Rattle.pdl_shape.specs.Places.{element_at}
 use Rattle.std.proofs.lemmas.Int.{to_z-of_z}
 use Rattle.std.proofs.lemmas.List.{get_or_default, length-set}
-use Rattle.pdl_numbers.proofs.Lists.{each_more, read_is}
+use Rattle.pdl_numbers.proofs.PlaceLists.{each_more, read_is}
 use Rattle.pdl_numbers.proofs.packed.Packed.read_at.Goals as goal
 
 pub returns-clause-value : goal.returns-clause-value

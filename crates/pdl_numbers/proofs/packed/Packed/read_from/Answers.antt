@@ -2,7 +2,7 @@
 use Rattle.std.proofs.Common.{◌≡◌, ℕ, ◌+◌, ℤ, List, length, map, take, drop, arith, ap, ◌∙◌}
 use Rattle.std.specs.Prelude.{◌-◌}
 use Rattle.pdl_numbers.specs.Bytes.{number_of}
-use Rattle.pdl_numbers.proofs.Lists.{block_map}
+use Rattle.pdl_numbers.proofs.PlaceLists.{block_map}
 use Rattle.pdl_numbers.proofs.packed.Packed.read_from.Goals as goal
 
 pub returns : goal.returns

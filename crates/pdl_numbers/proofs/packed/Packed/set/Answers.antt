@@ -4,7 +4,7 @@ use Rattle.std.specs.Prelude.{slice_set}
 use Rattle.std.proofs.lemmas.Int.{to_z-of_z}
 use Rattle.std.specs.Int.{w64}
 use Rattle.pdl_numbers.specs.Bytes.{bytes_of}
-use Rattle.pdl_numbers.proofs.Bytes.{set_packed, set_number}
+use Rattle.pdl_numbers.proofs.ByteLemmas.{set_packed, set_number}
 use Rattle.pdl_numbers.proofs.packed.Packed.set.Goals as goal
 
 pub invariant_of-self : goal.invariant_of-self

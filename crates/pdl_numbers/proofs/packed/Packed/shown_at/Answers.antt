@@ -5,7 +5,7 @@ use Rattle.std.specs.Int.{w64}
 use Rattle.std.specs.Prelude.{Option, Some}
 use Rattle.pdl_shape.specs.Places.{IsBelow, element_at}
 use Rattle.pdl_numbers.specs.Shown.{shown_through}
-use Rattle.pdl_numbers.proofs.Walking.{IsShown, shown_at, shown_element}
+use Rattle.pdl_numbers.proofs.ShownWalks.{IsShown, shown_at, shown_element}
 use Rattle.pdl_numbers.proofs.packed.Packed.shown_at.Goals as goal
 
 below : (n p : ℕ) (at : Option ℕ) → at ≡ Some p → IsBelow n at → p < n

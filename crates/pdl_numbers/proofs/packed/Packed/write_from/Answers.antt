@@ -3,7 +3,7 @@ use Rattle.std.proofs.Common.{◌≡◌, ℕ, ℤ, List, ◌+◌, ◌++◌, leng
 use Rattle.std.proofs.lemmas.List.{length-map}
 use Rattle.pdl_elem.specs.declared.Ty.{Ty}
 use Rattle.pdl_numbers.specs.Bytes.{ArePacked, number_of}
-use Rattle.pdl_numbers.proofs.Writing.{splice_numbers, splice_packed, spliced}
+use Rattle.pdl_numbers.proofs.WriteRuns.{splice_numbers, splice_packed, spliced}
 use Rattle.pdl_numbers.proofs.packed.Packed.write_from.Goals as goal
 
 pub invariant_of-self : goal.invariant_of-self

@@ -2,7 +2,7 @@ use Rattle.std.proofs.Common.{rules, ◌≡◌, ◌≤◌, ◌++◌, reverse, se
 use Rattle.std.proofs.lemmas.List.{length-set}
 use Rattle.pdl_registry.specs.Numbered.{IsPlace, Rises, most_newest, value_at}
 use Rattle.pdl_registry.proofs.numbered.Numbered.change.Goals as goal
-use Rattle.pdl_registry.proofs.Numbers.{parted, put_newest, change_settled, value_after, value_before, value_of}
+use Rattle.pdl_registry.proofs.NumberedLemmas.{parted, put_newest, change_settled, value_after, value_before, value_of}
 
 pub place-requires : goal.place-requires
 place-requires g c = subst Rises (sym c.deref.ensures.value) (parted (reverse c.self.inside.settled.entries) c.self.inside.newest.items c.self.invariant.0).after

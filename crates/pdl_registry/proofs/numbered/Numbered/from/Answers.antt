@@ -1,7 +1,7 @@
 use Rattle.std.proofs.Common.{◌≡◌, reverse, Some, None, sym, ◌∙◌, ap, subst}
 use Rattle.std.specs.Option.{option_or}
 use Rattle.pdl_registry.proofs.numbered.Numbered.from.Goals as goal
-use Rattle.pdl_registry.proofs.Numbers.{first_append, first_of, last_between, none_between}
+use Rattle.pdl_registry.proofs.NumberedLemmas.{first_append, first_of, last_between, none_between}
 
 pub returns-in-Some : goal.returns-in-Some
 returns-in-Some g c =

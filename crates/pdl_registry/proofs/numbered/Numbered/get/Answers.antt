@@ -1,7 +1,7 @@
 use Rattle.std.proofs.Common.{◌≡◌, reverse, Some, None, sym, ◌∙◌, ap, subst}
 use Rattle.pdl_registry.specs.Numbered.{IsPlace, Rises, value_at}
 use Rattle.pdl_registry.proofs.numbered.Numbered.get.Goals as goal
-use Rattle.pdl_registry.proofs.Numbers.{IsParted, parted, value_after, value_before, value_of}
+use Rattle.pdl_registry.proofs.NumberedLemmas.{IsParted, parted, value_after, value_before, value_of}
 
 pub place-requires : goal.place-requires
 place-requires g c = subst Rises (sym c.deref.ensures.value) (parted (reverse c.self.inside.settled.entries) c.self.inside.newest.items c.self.invariant.0).after

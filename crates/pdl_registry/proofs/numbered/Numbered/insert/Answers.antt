@@ -2,7 +2,7 @@ use Rattle.std.proofs.Common.{◌≤◌, [], ◌∷◌, length, reverse, sym, �
 use Rattle.std.proofs.lemmas.List.{length-append}
 use Rattle.pdl_registry.specs.Numbered.{Rises, most_newest}
 use Rattle.pdl_registry.proofs.numbered.Numbered.insert.Goals as goal
-use Rattle.pdl_registry.proofs.Numbers.{put_pushed}
+use Rattle.pdl_registry.proofs.NumberedLemmas.{put_pushed}
 
 pub invariant_of-self-2 : goal.invariant_of-self-2
 invariant_of-self-2 g c = (

@@ -3,7 +3,7 @@ use Rattle.std.proofs.lemmas.List.Edits.{length-remove}
 use Rattle.std.specs.List.{remove}
 use Rattle.pdl_registry.specs.Numbered.{IsPlace, IsPut, Rises, most_newest, value_at}
 use Rattle.pdl_registry.proofs.numbered.Numbered.remove.Goals as goal
-use Rattle.pdl_registry.proofs.Numbers.{parted, put_settled, remove_newest, value_after, value_before, value_of}
+use Rattle.pdl_registry.proofs.NumberedLemmas.{parted, put_settled, remove_newest, value_after, value_before, value_of}
 
 pub place-requires : goal.place-requires
 place-requires g c = subst Rises (sym c.deref.ensures.value) (parted (reverse c.self.inside.settled.entries) c.self.inside.newest.items c.self.invariant.0).after

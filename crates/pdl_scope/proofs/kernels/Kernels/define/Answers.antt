@@ -3,7 +3,7 @@ use Rattle.std.specs.Cmp.Lexicographic.{pointwise}
 use Rattle.indexmap.specs.IndexMap.{insert_entry}
 use Rattle.pdl_machine.specs.declared.fault.Fault.TheVariants.{TooManyKernels}
 use Rattle.pdl_machine.specs.Names.{kernels_limit}
-use Rattle.pdl_scope.proofs.Bindings.{bind_free}
+use Rattle.pdl_scope.proofs.ScopeNames.{bind_free}
 use Rattle.pdl_scope.proofs.kernels.Kernels.define.Goals as goal
 
 pub returns-in-Ok-clause-ok : goal.returns-in-Ok-clause-ok

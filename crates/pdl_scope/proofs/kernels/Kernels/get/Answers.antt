@@ -1,6 +1,6 @@
 use Rattle.std.proofs.Common.{ap, ◌∙◌}
 use Rattle.pdl_machine.specs.Names.{found}
-use Rattle.pdl_scope.proofs.Bindings.{number_found}
+use Rattle.pdl_scope.proofs.ScopeNames.{number_found}
 use Rattle.pdl_scope.proofs.kernels.Kernels.get.Goals as goal
 
 pub returns : goal.returns

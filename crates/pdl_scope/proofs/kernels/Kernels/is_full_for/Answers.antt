@@ -1,7 +1,7 @@
 use Rattle.std.proofs.Common.{length, ap, ◌∙◌}
 use Rattle.std.specs.Option.{option_copied}
 use Rattle.pdl_machine.specs.Names.{found, kernels_limit}
-use Rattle.pdl_scope.proofs.Bindings.{number_found, full_told, some_copied}
+use Rattle.pdl_scope.proofs.ScopeNames.{number_found, full_told, some_copied}
 use Rattle.pdl_scope.proofs.kernels.Kernels.is_full_for.Goals as goal
 
 pub returns-then-len-ge-MOST_KERNELS : goal.returns-then-len-ge-MOST_KERNELS

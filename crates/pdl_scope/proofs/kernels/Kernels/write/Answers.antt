@@ -4,7 +4,7 @@ use Rattle.pdl_image.specs.Dump.{definition_line}
 use Rattle.pdl_machine.specs.Dumps.{definition}
 use Rattle.pdl_machine.specs.Kernels.{texts_of}
 use Rattle.pdl_machine.specs.Names.{KernelTexts}
-use Rattle.pdl_scope.proofs.DumpLemmas.{entry_refused, entry_written}
+use Rattle.pdl_scope.proofs.DumpingLemmas.{entry_refused, entry_written}
 use Rattle.pdl_scope.proofs.kernels.Kernels.write.Goals as goal
 
 abbrev line_of : List ℕ × KernelTexts → Line

@@ -2,7 +2,7 @@ use Rattle.std.proofs.Common.{◌≡◌, ◌+◌, Bool, true, false, ◌-◌, le
 use Rattle.std.specs.Prelude.{◌||◌, is_some}
 use Rattle.pdl_machine.specs.Names.{found}
 use Rattle.pdl_scope.specs.Room.{is_among, new_among}
-use Rattle.pdl_scope.proofs.Roots.{new_front}
+use Rattle.pdl_scope.proofs.RoomRoots.{new_front}
 use Rattle.pdl_scope.proofs.names.Names.+new_among.Goals as goal
 use Rattle.pdl_scope.proofs.names.Names.+new_among.Goals.{then-is_some, else-is_some}
 

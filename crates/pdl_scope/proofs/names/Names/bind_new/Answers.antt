@@ -5,7 +5,7 @@ use Rattle.pdl_machine.specs.declared.fault.Fault.TheVariants.{TooManyNames}
 use Rattle.pdl_machine.specs.Names.{entered, names_limit}
 use Rattle.pdl_scope.specs.declared.fault.ScopeFault.{ScopeFault}
 use Rattle.pdl_scope.specs.Room.{Table}
-use Rattle.pdl_scope.proofs.Bindings.{bind_unbound}
+use Rattle.pdl_scope.proofs.ScopeNames.{bind_unbound}
 use Rattle.pdl_scope.proofs.names.Names.bind_new.Goals as goal
 use Rattle.pdl_scope.proofs.names.Names.bind_new.Goals.{in-Ok, in-Err}
 

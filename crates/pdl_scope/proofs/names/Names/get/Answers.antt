@@ -1,7 +1,7 @@
 use Rattle.std.proofs.Common.{ap, ◌∙◌}
 use Rattle.pdl_machine.specs.Names.{found}
 use Rattle.pdl_scope.specs.Room.{Table}
-use Rattle.pdl_scope.proofs.Bindings.{number_found}
+use Rattle.pdl_scope.proofs.ScopeNames.{number_found}
 use Rattle.pdl_scope.proofs.names.Names.get.Goals as goal
 
 pub returns : goal.returns

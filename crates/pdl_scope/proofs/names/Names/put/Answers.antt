@@ -1,7 +1,7 @@
 use Rattle.std.proofs.Common.{ap, ◌∙◌}
 use Rattle.pdl_machine.specs.Names.{found, with_name}
 use Rattle.pdl_scope.specs.Room.{Table}
-use Rattle.pdl_scope.proofs.Bindings.{number_found, name_inserted}
+use Rattle.pdl_scope.proofs.ScopeNames.{number_found, name_inserted}
 use Rattle.pdl_scope.proofs.names.Names.put.Goals as goal
 
 pub returns-clause-given_up : goal.returns-clause-given_up

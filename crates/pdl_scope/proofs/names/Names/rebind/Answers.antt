@@ -1,7 +1,7 @@
 use Rattle.std.proofs.Common.{ap, ◌∙◌}
 use Rattle.pdl_machine.specs.Names.{found, with_name}
 use Rattle.pdl_scope.specs.Room.{Table}
-use Rattle.pdl_scope.proofs.Bindings.{name_set, none_told, number_found}
+use Rattle.pdl_scope.proofs.ScopeNames.{name_set, none_told, number_found}
 use Rattle.pdl_scope.proofs.names.Names.rebind.Goals as goal
 
 pub returns-in-None-clause-given_up : goal.returns-in-None-clause-given_up

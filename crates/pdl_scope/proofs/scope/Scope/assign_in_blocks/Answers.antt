@@ -13,8 +13,8 @@ use Rattle.pdl_scope.specs.Answers.{IsFault, Prints}
 use Rattle.pdl_scope.specs.Assigning.{Assigns, IsAlone}
 use Rattle.pdl_scope.specs.Growth.{grows_refl}
 use Rattle.pdl_scope.specs.Scope.{Scope as Seen, arrays_of, machine, names_in, scope_in, state_in, Grows, IsHeld}
-use Rattle.pdl_scope.proofs.Flowed.{Laws}
-use Rattle.pdl_scope.proofs.InBlocks.{blocks_held, blocks_printed, blocks_refused}
+use Rattle.pdl_scope.proofs.ScopeFlowed.{Laws}
+use Rattle.pdl_scope.proofs.ScopeInBlocks.{blocks_held, blocks_printed, blocks_refused}
 use Rattle.pdl_scope.proofs.scope.Scope.assign_in_blocks.Goals as goal
 use Rattle.pdl_scope.proofs.scope.Scope.assign_in_blocks.Goals.{in-Ok, in-Err}
 

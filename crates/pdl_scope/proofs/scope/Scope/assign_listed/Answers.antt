@@ -12,10 +12,10 @@ use Rattle.pdl_machine.specs.Then.{and_then}
 use Rattle.pdl_scope.specs.Answers.{Prints}
 use Rattle.pdl_scope.specs.Assigning.{IsAlone}
 use Rattle.pdl_scope.specs.Scope.{arrays_of, engine_of, machine, names_in, state_in, IsHeld, Scope as Seen}
-use Rattle.pdl_scope.proofs.Bounds.{read_views, warmed, written_views}
-use Rattle.pdl_scope.proofs.Flowed.{Laws, alone_followed, flows_after, values_flowed, written_in}
-use Rattle.pdl_scope.proofs.Growing.{readied, whole_assigned}
-use Rattle.pdl_scope.proofs.Held.{held_assigned, held_readied}
+use Rattle.pdl_scope.proofs.LetGoBounds.{read_views, warmed, written_views}
+use Rattle.pdl_scope.proofs.ScopeFlowed.{Laws, alone_followed, flows_after, values_flowed, written_in}
+use Rattle.pdl_scope.proofs.ScopeGrowing.{readied, whole_assigned}
+use Rattle.pdl_scope.proofs.HoldingLemmas.{held_assigned, held_readied}
 use Rattle.pdl_scope.proofs.scope.Scope.assign_listed.Goals as goal
 
 pub invariant_of-self-2 : goal.invariant_of-self-2

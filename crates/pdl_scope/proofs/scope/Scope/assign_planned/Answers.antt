@@ -16,14 +16,14 @@ use Rattle.pdl_scope.specs.FlowCosts.{following_steps}
 use Rattle.pdl_scope.specs.Plans.{AllCanAssign, IsPlan, all_assigned, values_in}
 use Rattle.pdl_scope.specs.Scope.{arrays_of, engine_of, machine, names_in, state_in, IsHeld, Scope as Seen}
 use Rattle.pdl_scope.specs.declared.following.Change.{Change}
-use Rattle.pdl_scope.proofs.Bounds.{read_views}
-use Rattle.pdl_scope.proofs.Costs.{all_no_dearer, never_dearer}
-use Rattle.pdl_scope.proofs.FlowCosts.{following_readied}
-use Rattle.pdl_scope.proofs.Flowed.{Laws, flows_after, held_planned, plan_followed, planned_views, values_flowed}
-use Rattle.pdl_scope.proofs.Growing.{readied}
-use Rattle.pdl_scope.proofs.Held.{numbers, held_readied}
-use Rattle.pdl_scope.proofs.Planned.{planned_kept}
-use Rattle.pdl_scope.proofs.Watched.{live_back}
+use Rattle.pdl_scope.proofs.LetGoBounds.{read_views}
+use Rattle.pdl_scope.proofs.CostLemmas.{all_no_dearer, never_dearer}
+use Rattle.pdl_scope.proofs.FlowCostLemmas.{following_readied}
+use Rattle.pdl_scope.proofs.ScopeFlowed.{Laws, flows_after, held_planned, plan_followed, planned_views, values_flowed}
+use Rattle.pdl_scope.proofs.ScopeGrowing.{readied}
+use Rattle.pdl_scope.proofs.HoldingLemmas.{numbers, held_readied}
+use Rattle.pdl_scope.proofs.PlanLemmas.{planned_kept}
+use Rattle.pdl_scope.proofs.ScopeWatches.{live_back}
 use Rattle.pdl_scope.proofs.scope.Scope.assign_planned.Goals as goal
 
 pub planned-requires-clause-watched : goal.planned-requires-clause-watched

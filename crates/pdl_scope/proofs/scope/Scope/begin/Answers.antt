@@ -8,10 +8,10 @@ use Rattle.pdl_machine.specs.Following.{AreFlows}
 use Rattle.pdl_machine.specs.Names.{Named, names_limit, is_full_for, with_name}
 use Rattle.pdl_machine.specs.State.{AreLive}
 use Rattle.pdl_scope.specs.Scope.{arrays_of, names_in, reads_limit, state_in, times, IsHeld, Scope as Seen}
-use Rattle.pdl_scope.proofs.Begun.{begun_live}
-use Rattle.pdl_scope.proofs.Cuts.{fits_bound, held_same}
-use Rattle.pdl_scope.proofs.Ended.{held_begun}
-use Rattle.pdl_scope.proofs.Held.{held_defined, room_for}
+use Rattle.pdl_scope.proofs.ScopeFlows.{begun_live}
+use Rattle.pdl_scope.proofs.ScopeCuts.{fits_bound, held_same}
+use Rattle.pdl_scope.proofs.FlowingEnds.{held_begun}
+use Rattle.pdl_scope.proofs.HoldingLemmas.{held_defined, room_for}
 use Rattle.pdl_scope.proofs.scope.Scope.begin.Goals as goal
 
 pub hold_all-requires-clause-live : goal.hold_all-requires-clause-live

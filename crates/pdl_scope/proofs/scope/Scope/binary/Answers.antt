@@ -9,9 +9,9 @@ use Rattle.pdl_scope.specs.Answers.{IsFault, Evaluates}
 use Rattle.pdl_engine.specs.Reading.{read_steps}
 use Rattle.pdl_scope.specs.Costs.{make_steps}
 use Rattle.pdl_scope.specs.Scope.{arrays_of, engine_of, Scope as Seen}
-use Rattle.pdl_scope.proofs.Costs.{read_alone, read_and_made}
-use Rattle.pdl_scope.proofs.Faults.{not_made}
-use Rattle.pdl_scope.proofs.Growing.{readied_arrays}
+use Rattle.pdl_scope.proofs.CostLemmas.{read_alone, read_and_made}
+use Rattle.pdl_scope.proofs.FaultLemmas.{not_made}
+use Rattle.pdl_scope.proofs.ScopeGrowing.{readied_arrays}
 use Rattle.pdl_scope.proofs.scope.Scope.binary.Goals as goal
 
 pub returns-in-Ok-clause-value : goal.returns-in-Ok-clause-value

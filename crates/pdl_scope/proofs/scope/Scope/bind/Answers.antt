@@ -5,8 +5,8 @@ use Rattle.pdl_machine.specs.declared.fault.Fault.TheVariants.{TooManyNames}
 use Rattle.pdl_machine.specs.Names.{Named, found, names_limit}
 use Rattle.pdl_scope.specs.Scope.{Scope as Seen, names_in, state_in, IsHeld}
 use Rattle.pdl_scope.specs.Holding.{IsHeldForName}
-use Rattle.pdl_scope.proofs.Bindings.{bound_is}
-use Rattle.pdl_scope.proofs.Held.{held_bound, few_bound, room_for}
+use Rattle.pdl_scope.proofs.ScopeNames.{bound_is}
+use Rattle.pdl_scope.proofs.HoldingLemmas.{held_bound, few_bound, room_for}
 use Rattle.pdl_scope.proofs.scope.Scope.bind.Goals as goal
 
 pub hold_for_name-requires-clause-room : goal.hold_for_name-requires-clause-room

@@ -9,13 +9,13 @@ use Rattle.pdl_scope.specs.Growth.{grows_refl, grows_trans}
 use Rattle.pdl_scope.specs.Room.{with_names, new_among}
 use Rattle.pdl_scope.specs.Answers.{Prints}
 use Rattle.pdl_scope.specs.Scope.{arrays_of, machine, names_in, Grows, Scope as Seen}
-use Rattle.pdl_scope.proofs.Newest.{made_first, made_more}
+use Rattle.pdl_scope.proofs.CostNewest.{made_first, made_more}
 use Rattle.pdl_scope.specs.Costs.{MovesUpTo, arrays_after}
-use Rattle.pdl_scope.proofs.Bound.{roots_within}
-use Rattle.pdl_scope.proofs.Cuts.{held_same}
-use Rattle.pdl_scope.proofs.Growing.{live_too}
-use Rattle.pdl_scope.proofs.Held.{held_defined}
-use Rattle.pdl_scope.proofs.Roots.{IsNext, left, fits_all, some_too_many, none_fit, named_too, named_next, named_is, one_longer, roots_more, roots_done, room_left, never_refused}
+use Rattle.pdl_scope.proofs.CostsBound.{roots_within}
+use Rattle.pdl_scope.proofs.ScopeCuts.{held_same}
+use Rattle.pdl_scope.proofs.ScopeGrowing.{live_too}
+use Rattle.pdl_scope.proofs.HoldingLemmas.{held_defined}
+use Rattle.pdl_scope.proofs.RoomRoots.{IsNext, left, fits_all, some_too_many, none_fit, named_too, named_next, named_is, one_longer, roots_more, roots_done, room_left, never_refused}
 use Rattle.pdl_scope.proofs.scope.Scope.bind_roots.Goals as goal
 
 -- the first of the names that are left

@@ -7,7 +7,7 @@ use Rattle.pdl_machine.specs.State.{AreLive}
 use Rattle.pdl_machine.specs.Step.{roots_bound}
 use Rattle.pdl_scope.specs.Room.{with_names, new_among}
 use Rattle.pdl_scope.specs.Scope.{machine, Grows}
-use Rattle.pdl_scope.proofs.Roots.{left, named_too}
+use Rattle.pdl_scope.proofs.RoomRoots.{left, named_too}
 use Rattle.pdl_scope.proofs.scope.Scope.bind_roots.Given as goal
 
 -- the arrays so far are made, and there is room for their names and the others

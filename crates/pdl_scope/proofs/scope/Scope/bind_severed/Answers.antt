@@ -16,13 +16,13 @@ use Rattle.pdl_machine.specs.Step.{Stepped, bind_severed, ending}
 use Rattle.pdl_scope.specs.Answers.{Prints}
 use Rattle.pdl_scope.specs.Growth.{grows_refl}
 use Rattle.pdl_scope.specs.Scope.{arrays_of, engine_of, machine, names_in, scope_in, state_in, Grows, IsHeld, Scope as Seen}
-use Rattle.pdl_scope.proofs.Cuts.{kept_so, held_same, made_so, unbindable, bindable, fits_bound}
+use Rattle.pdl_scope.proofs.ScopeCuts.{kept_so, held_same, made_so, unbindable, bindable, fits_bound}
 use Rattle.std.proofs.lemmas.List.{length-append}
 use Rattle.pdl_scope.specs.Flowing.{RootsRise, read_by}
-use Rattle.pdl_scope.proofs.Ended.{held_ended}
-use Rattle.pdl_scope.proofs.FlowsStay.{roots_rise}
-use Rattle.pdl_scope.proofs.Held.{held_defined}
-use Rattle.pdl_scope.proofs.Unmoved.{nothing_then_holds}
+use Rattle.pdl_scope.proofs.FlowingEnds.{held_ended}
+use Rattle.pdl_scope.proofs.FlowingStays.{roots_rise}
+use Rattle.pdl_scope.proofs.HoldingLemmas.{held_defined}
+use Rattle.pdl_scope.proofs.CostUnmoved.{nothing_then_holds}
 use Rattle.pdl_scope.proofs.scope.Scope.bind_severed.Goals as goal
 
 pub cut_apart-requires-clause-small : goal.cut_apart-requires-clause-small

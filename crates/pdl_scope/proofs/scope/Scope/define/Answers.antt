@@ -1,4 +1,4 @@
-use Rattle.pdl_scope.proofs.Held.{held_defined}
+use Rattle.pdl_scope.proofs.HoldingLemmas.{held_defined}
 use Rattle.pdl_scope.proofs.scope.Scope.define.Goals as goal
 
 pub invariant_of-self : goal.invariant_of-self

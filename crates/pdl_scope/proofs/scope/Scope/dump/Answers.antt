@@ -8,8 +8,8 @@ use Rattle.pdl_machine.specs.State.{State}
 use Rattle.pdl_scope.specs.Answers.{AnswersAs}
 use Rattle.pdl_scope.specs.Dumping.{dump_steps, is_refused_unread}
 use Rattle.pdl_scope.specs.Scope.{Scope as Seen, engine_of, machine, names_in, state_in}
-use Rattle.pdl_scope.proofs.DumpCosts.{not_any}
-use Rattle.pdl_scope.proofs.DumpLemmas.{dumped_as}
+use Rattle.pdl_scope.proofs.DumpingCosts.{not_any}
+use Rattle.pdl_scope.proofs.DumpingLemmas.{dumped_as}
 use Rattle.pdl_scope.proofs.scope.Scope.dump.Goals as goal
 
 pub returns-clause-text : goal.returns-clause-text

@@ -2,7 +2,7 @@ use Rattle.std.proofs.Common.{subst}
 use Rattle.pdl_world.specs.Sound.{IsLive}
 use Rattle.pdl_machine.specs.Watches.{attached}
 use Rattle.pdl_scope.specs.Scope.{Scope as Seen}
-use Rattle.pdl_scope.proofs.Bindings.{live_entry}
+use Rattle.pdl_scope.proofs.ScopeNames.{live_entry}
 use Rattle.pdl_scope.proofs.scope.Scope.entry.Goals as goal
 
 pub returns-clause-live : goal.returns-clause-live

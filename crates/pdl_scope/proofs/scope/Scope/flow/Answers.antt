@@ -9,7 +9,7 @@ use Rattle.pdl_machine.specs.Outcome.{new_root}
 use Rattle.pdl_machine.specs.Step.{begun, bound}
 use Rattle.pdl_scope.specs.Costs.{total_size}
 use Rattle.pdl_scope.specs.Scope.{engine_of, machine, Scope as Seen}
-use Rattle.pdl_scope.proofs.Bound.{root_loses_nothing, root_moves, size_after}
+use Rattle.pdl_scope.proofs.CostsBound.{root_loses_nothing, root_moves, size_after}
 use Rattle.pdl_scope.proofs.scope.Scope.flow.Goals as goal
 
 pub returns-then-is_full_for-clause-within : goal.returns-then-is_full_for-clause-within

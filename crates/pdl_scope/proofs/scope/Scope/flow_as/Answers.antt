@@ -7,7 +7,7 @@ use Rattle.pdl_machine.specs.Step.{Stepped, begun, bound}
 use Rattle.pdl_scope.specs.Answers.{Runs}
 use Rattle.pdl_scope.specs.Growth.{grows_trans, reads_grow}
 use Rattle.pdl_scope.specs.Scope.{machine}
-use Rattle.pdl_scope.proofs.Begun.{RootLaws, begun_flows, begun_so, runs_then}
+use Rattle.pdl_scope.proofs.ScopeFlows.{RootLaws, begun_flows, begun_so, runs_then}
 use Rattle.pdl_scope.proofs.scope.Scope.flow_as.Goals as goal
 
 pub begin-requires-clause-flows : goal.begin-requires-clause-flows

@@ -1,7 +1,7 @@
 use Rattle.std.proofs.Common.{sym, subst}
 use Rattle.pdl_scope.specs.Flowing.{RootsRise}
 use Rattle.pdl_scope.specs.Scope.{arrays_of}
-use Rattle.pdl_scope.proofs.FlowsStay.{roots_rise}
+use Rattle.pdl_scope.proofs.FlowingStays.{roots_rise}
 use Rattle.pdl_scope.proofs.scope.Scope.is_flowing.Goals as goal
 
 pub is_flow-requires : goal.is_flow-requires

@@ -4,7 +4,7 @@ use Rattle.pdl_world.specs.Sound.{IsLive}
 use Rattle.pdl_scope.specs.Scope.{Scope as Seen}
 use Rattle.pdl_world.specs.World.{elements}
 use Rattle.pdl_machine.specs.Fills.{only}
-use Rattle.pdl_scope.proofs.Counts.{single}
+use Rattle.pdl_scope.proofs.WorldCounts.{single}
 use Rattle.pdl_scope.proofs.scope.Scope.is_single.Goals as goal
 
 pub returns : goal.returns

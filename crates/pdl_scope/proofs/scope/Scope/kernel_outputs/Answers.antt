@@ -10,7 +10,7 @@ use Rattle.pdl_machine.specs.Names.{KernelTexts}
 use Rattle.pdl_machine.specs.Then.{and_then, or_fault}
 use Rattle.pdl_engine.specs.Reading.{read_steps}
 use Rattle.pdl_scope.specs.Scope.{Scope as Seen, engine_of, arrays_of, arrays_seen, made_in}
-use Rattle.pdl_scope.proofs.KernelCalls.{all_arrays}
+use Rattle.pdl_scope.proofs.ScopeKernels.{all_arrays}
 use Rattle.pdl_scope.specs.Answers.{AnswersAs}
 use Rattle.pdl_scope.proofs.scope.Scope.kernel_outputs.Goals as goal
 

@@ -10,10 +10,10 @@ use Rattle.pdl_engine.specs.Reading.{KeepsViews}
 use Rattle.pdl_engine.specs.State.{is_fresh}
 use Rattle.pdl_scope.specs.Holding.{AreHeld}
 use Rattle.pdl_scope.specs.Scope.{arrays_of, engine_of, machine, names_in, reads_limit, state_in, IsHeld, Scope as Seen}
-use Rattle.pdl_scope.proofs.FlowsStay.{listed_front}
-use Rattle.pdl_scope.proofs.Held.{all_gone, held_beside, held_by, held_of}
-use Rattle.pdl_scope.proofs.Needed.{kept_reads, needed_world, staying_live}
-use Rattle.pdl_scope.proofs.Released.{let_go_refl}
+use Rattle.pdl_scope.proofs.FlowingStays.{listed_front}
+use Rattle.pdl_scope.proofs.HoldingLemmas.{all_gone, held_beside, held_by, held_of}
+use Rattle.pdl_scope.proofs.LetGoNeeds.{kept_reads, needed_world, staying_live}
+use Rattle.pdl_scope.proofs.LetGoReleases.{let_go_refl}
 use Rattle.pdl_scope.proofs.scope.Scope.let_go.Goals as goal
 
 abbrev swept : State → State

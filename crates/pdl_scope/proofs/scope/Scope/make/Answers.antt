@@ -1,11 +1,11 @@
 use Rattle.std.proofs.Common.{List, ℕ, ◌∷◌, [], ◌++◌, ap, subst, ◌∙◌}
 use Rattle.pdl_world.specs.World.{root}
 use Rattle.pdl_scope.specs.Scope.{Scope as Seen, names_in, scope_in, Grows}
-use Rattle.pdl_scope.proofs.Growing.{grown}
-use Rattle.pdl_scope.proofs.Held.{held_new}
+use Rattle.pdl_scope.proofs.ScopeGrowing.{grown}
+use Rattle.pdl_scope.proofs.HoldingLemmas.{held_new}
 use Rattle.pdl_engine.specs.Reading.{KeepsViews}
 use Rattle.pdl_engine.specs.State.{State as Engine}
-use Rattle.pdl_scope.proofs.Bounds.{root_is_none, same_views}
+use Rattle.pdl_scope.proofs.LetGoBounds.{root_is_none, same_views}
 use Rattle.pdl_scope.proofs.scope.Scope.make.Goals as goal
 
 pub invariant_of-self-2 : goal.invariant_of-self-2

@@ -3,7 +3,7 @@ use Rattle.std.specs.Prelude.{IfSome}
 use Rattle.pdl_world.specs.Sound.{IsLive}
 use Rattle.pdl_machine.specs.Watches.{attached}
 use Rattle.pdl_scope.specs.Scope.{Scope as Seen}
-use Rattle.pdl_scope.proofs.Bindings.{live_found}
+use Rattle.pdl_scope.proofs.ScopeNames.{live_found}
 use Rattle.pdl_scope.proofs.scope.Scope.number_of.Goals as goal
 
 pub returns-clause-live : goal.returns-clause-live

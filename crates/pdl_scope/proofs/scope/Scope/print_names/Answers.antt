@@ -1,4 +1,4 @@
-use Rattle.pdl_scope.proofs.Printing.{lines_more}
+use Rattle.pdl_scope.proofs.StepPrinting.{lines_more}
 use Rattle.pdl_scope.proofs.scope.Scope.print_names.Goals as goal
 
 pub loop-index-preserved : goal.loop-index-preserved

@@ -7,8 +7,8 @@ use Rattle.pdl_machine.specs.Refused.{reduce_fault, or_named}
 use Rattle.pdl_scope.specs.Answers.{Answers}
 use Rattle.pdl_engine.specs.Reading.{read_steps}
 use Rattle.pdl_scope.specs.Scope.{arrays_of, engine_of, Scope as Seen}
-use Rattle.pdl_scope.proofs.Growing.{readied_arrays}
-use Rattle.pdl_scope.proofs.Reduced.{one_lent}
+use Rattle.pdl_scope.proofs.ScopeGrowing.{readied_arrays}
+use Rattle.pdl_scope.proofs.ScopeReductions.{one_lent}
 use Rattle.pdl_scope.proofs.scope.Scope.reduced.Goals as goal
 
 pub returns-clause-value : goal.returns-clause-value

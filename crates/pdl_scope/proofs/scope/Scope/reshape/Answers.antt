@@ -13,11 +13,11 @@ use Rattle.pdl_machine.specs.Watches.{Watches, attached}
 use Rattle.pdl_scope.specs.Answers.{Prints}
 use Rattle.pdl_scope.specs.Scope.{arrays_of, engine_of, machine, names_in, scope_in, state_in, IsHeld, Grows, Scope as Seen}
 use Rattle.pdl_machine.specs.Flows.{Flows, all_read}
-use Rattle.pdl_scope.proofs.Cuts.{kept_so, made_so, reshape_breaks, reshape_made, reshape_refused, unkept_shape}
-use Rattle.pdl_scope.proofs.FlowsStay.{reads_live, roots_rise}
-use Rattle.pdl_scope.proofs.Held.{numbers}
-use Rattle.pdl_scope.proofs.Unmoved.{relaid}
-use Rattle.pdl_scope.proofs.Watched.{live_back}
+use Rattle.pdl_scope.proofs.ScopeCuts.{kept_so, made_so, reshape_breaks, reshape_made, reshape_refused, unkept_shape}
+use Rattle.pdl_scope.proofs.FlowingStays.{reads_live, roots_rise}
+use Rattle.pdl_scope.proofs.HoldingLemmas.{numbers}
+use Rattle.pdl_scope.proofs.CostUnmoved.{relaid}
+use Rattle.pdl_scope.proofs.ScopeWatches.{live_back}
 use Rattle.pdl_scope.proofs.scope.Scope.reshape.Goals as goal
 
 pub kept_shape-requires-clause-watched : goal.kept_shape-requires-clause-watched

@@ -12,9 +12,9 @@ use Rattle.pdl_machine.specs.Step.{severing}
 use Rattle.pdl_scope.specs.Answers.{Prints}
 use Rattle.pdl_scope.specs.Scope.{arrays_of, engine_of, machine, names_in, scope_in, state_in, IsHeld, Grows, Scope as Seen}
 use Rattle.pdl_scope.specs.Flowing.{RootsRise}
-use Rattle.pdl_scope.proofs.Cuts.{kept_so, made_so}
-use Rattle.pdl_scope.proofs.Ended.{held_ended}
-use Rattle.pdl_scope.proofs.FlowsStay.{roots_rise}
+use Rattle.pdl_scope.proofs.ScopeCuts.{kept_so, made_so}
+use Rattle.pdl_scope.proofs.FlowingEnds.{held_ended}
+use Rattle.pdl_scope.proofs.FlowingStays.{roots_rise}
 use Rattle.pdl_scope.proofs.scope.Scope.sever.Goals as goal
 
 pub cut_apart-requires-clause-small : goal.cut_apart-requires-clause-small

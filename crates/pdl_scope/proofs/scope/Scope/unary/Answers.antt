@@ -6,8 +6,8 @@ use Rattle.pdl_ops.specs.Elementwise.{unary_each}
 use Rattle.pdl_engine.specs.Reading.{read_steps}
 use Rattle.pdl_machine.specs.Arrays.{Arrays, array_in}
 use Rattle.pdl_scope.specs.Scope.{arrays_of, engine_of, Scope as Seen}
-use Rattle.pdl_scope.proofs.Costs.{read_and_made}
-use Rattle.pdl_scope.proofs.Growing.{readied_arrays}
+use Rattle.pdl_scope.proofs.CostLemmas.{read_and_made}
+use Rattle.pdl_scope.proofs.ScopeGrowing.{readied_arrays}
 use Rattle.pdl_scope.proofs.scope.Scope.unary.Goals as goal
 
 pub returns-clause-counted : goal.returns-clause-counted

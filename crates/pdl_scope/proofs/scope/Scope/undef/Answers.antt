@@ -4,7 +4,7 @@ use Rattle.pdl_machine.specs.Names.{found, without_name}
 use Rattle.pdl_machine.specs.Step.{Stepped}
 use Rattle.pdl_scope.specs.Answers.{Prints}
 use Rattle.pdl_scope.specs.Scope.{machine, names_in, state_in, IsHeld, Scope as Seen}
-use Rattle.pdl_scope.proofs.Cuts.{given_up_by, held_same, held_unbound, undone}
+use Rattle.pdl_scope.proofs.ScopeCuts.{given_up_by, held_same, held_unbound, undone}
 use Rattle.pdl_scope.proofs.scope.Scope.undef.Goals as goal
 
 pub invariant_of-self-in-Some : goal.invariant_of-self-in-Some

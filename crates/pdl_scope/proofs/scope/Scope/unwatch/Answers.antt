@@ -3,7 +3,7 @@ use Rattle.std.specs.Prelude.{IsSome}
 use Rattle.std.specs.Option.{option_to_list}
 use Rattle.pdl_machine.specs.Watches.{Watches, detach, watch_of}
 use Rattle.pdl_scope.specs.Scope.{names_in, state_in, IsHeld, Scope as Seen}
-use Rattle.pdl_scope.proofs.Watched.{attached_within, held_detached}
+use Rattle.pdl_scope.proofs.ScopeWatches.{attached_within, held_detached}
 use Rattle.pdl_scope.proofs.scope.Scope.unwatch.Goals as goal
 
 pub invariant_of-self-2 : goal.invariant_of-self-2

@@ -1,8 +1,8 @@
 use Rattle.std.proofs.Common.{List, ℕ, ◌∷◌, [], ◌++◌, ap, subst, ◌∙◌}
 use Rattle.pdl_world.specs.World.{view}
 use Rattle.pdl_scope.specs.Scope.{Scope as Seen, names_in, scope_in, Grows}
-use Rattle.pdl_scope.proofs.Growing.{grown}
-use Rattle.pdl_scope.proofs.Held.{held_new}
+use Rattle.pdl_scope.proofs.ScopeGrowing.{grown}
+use Rattle.pdl_scope.proofs.HoldingLemmas.{held_new}
 use Rattle.pdl_scope.proofs.scope.Scope.view.Goals as goal
 
 pub invariant_of-self-2 : goal.invariant_of-self-2

@@ -4,8 +4,8 @@ use Rattle.pdl_engine.specs.Held.{one_more_at}
 use Rattle.pdl_engine.specs.State.{State as Engine}
 use Rattle.pdl_machine.specs.Watches.{Watches, watch_of}
 use Rattle.pdl_scope.specs.Scope.{names_in, state_in, IsHeld, Scope as Seen}
-use Rattle.pdl_scope.proofs.Held.{room_for}
-use Rattle.pdl_scope.proofs.Watched.{held_attached}
+use Rattle.pdl_scope.proofs.HoldingLemmas.{room_for}
+use Rattle.pdl_scope.proofs.ScopeWatches.{held_attached}
 use Rattle.pdl_scope.proofs.scope.Scope.watch.Goals as goal
 
 pub hold-requires-clause-room : goal.hold-requires-clause-room

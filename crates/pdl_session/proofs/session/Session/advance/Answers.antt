@@ -9,13 +9,13 @@ use Rattle.pdl_session.specs.Session.{AssignsAgain, IsAsBefore, PrintsAtMost, Se
 use Rattle.pdl_session.specs.Evaluations.{RunsAtMost}
 use Rattle.pdl_session.specs.Faults.{ending}
 use Rattle.pdl_session.specs.Statements.{MovesAtMost}
-use Rattle.pdl_session.proofs.Advances.{advanced, advance_refused}
-use Rattle.pdl_session.proofs.Endings.{moves_at_most}
-use Rattle.pdl_session.proofs.Resting as resting
-use Rattle.pdl_session.proofs.Resting.{as_before, in_place, readable_then, refused_unmoved, warm_err, warm_ok}
-use Rattle.pdl_session.proofs.Spelled.{left_spelled}
-use Rattle.pdl_session.proofs.Statements.{kept_out, kept_seen}
-use Rattle.pdl_session.proofs.Tidied.{tidied_after}
+use Rattle.pdl_session.proofs.AdvancedLemmas.{advanced, advance_refused}
+use Rattle.pdl_session.proofs.StatementEndings.{moves_at_most}
+use Rattle.pdl_session.proofs.SessionResting as resting
+use Rattle.pdl_session.proofs.SessionResting.{as_before, in_place, readable_then, refused_unmoved, warm_err, warm_ok}
+use Rattle.pdl_session.proofs.DumpableLawSpelled.{left_spelled}
+use Rattle.pdl_session.proofs.PerformedStatements.{kept_out, kept_seen}
+use Rattle.pdl_session.proofs.StateTidied.{tidied_after}
 use Rattle.pdl_session.proofs.session.Session.advance.Goals as goal
 
 pub returns : goal.returns

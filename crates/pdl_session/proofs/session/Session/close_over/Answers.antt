@@ -2,7 +2,7 @@ use Rattle.std.proofs.Common.{ap}
 use Rattle.pdl_watch.specs.Slots.{slots_by}
 use Rattle.pdl_scope.specs.Scope.{machine}
 use Rattle.pdl_session.specs.Session.{Session}
-use Rattle.pdl_session.proofs.Closing.{closed, closed_short}
+use Rattle.pdl_session.proofs.SlotsClosed.{closed, closed_short}
 use Rattle.pdl_session.proofs.session.Session.close_over.Goals as goal
 
 pub returns-clause-ok : goal.returns-clause-ok

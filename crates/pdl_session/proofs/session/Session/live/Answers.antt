@@ -1,7 +1,7 @@
 use Rattle.std.proofs.Common.{length, ap, ◌∙◌}
 use Rattle.pdl_scope.specs.Scope.{machine}
 use Rattle.pdl_session.specs.Session.{Session}
-use Rattle.pdl_session.proofs.Tidied.{live_is}
+use Rattle.pdl_session.proofs.StateTidied.{live_is}
 use Rattle.pdl_session.proofs.session.Session.live.Goals as goal
 
 pub returns : goal.returns

@@ -4,9 +4,9 @@ use Rattle.pdl_scope.specs.Scope.{machine}
 use Rattle.std.proofs.Common.{Err, refl, sym, subst}
 use Rattle.pdl_session.specs.declared.fault.StepFault.{StepFault}
 use Rattle.pdl_session.specs.Steps.{HasStepped, moment}
-use Rattle.pdl_session.proofs.Endings.{refused_step}
-use Rattle.pdl_session.proofs.Dumped.{prints_dump}
-use Rattle.pdl_session.proofs.Heard.{has_done, has_run, stops_step, served_after}
+use Rattle.pdl_session.proofs.StatementEndings.{refused_step}
+use Rattle.pdl_session.proofs.DumpingLemmas.{prints_dump}
+use Rattle.pdl_session.proofs.NewsHeard.{has_done, has_run, stops_step, served_after}
 use Rattle.pdl_session.proofs.session.Session.step_over.Goals as goal
 
 pub returns-in-Ok-hear : goal.returns-in-Ok-hear

@@ -1,7 +1,7 @@
 use Rattle.std.proofs.Common.{sym, arith}
 use Rattle.pdl_engine.specs.Reading.{read_steps}
 use Rattle.pdl_scope.specs.Scope.{engine_of}
-use Rattle.pdl_session.proofs.Moved.{second_costs}
+use Rattle.pdl_session.proofs.CostCalls.{second_costs}
 use Rattle.pdl_session.proofs.views.choices.index.Goals as goal
 
 pub returns-in-Some-clause-counted : goal.returns-in-Some-clause-counted

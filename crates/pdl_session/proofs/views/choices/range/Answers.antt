@@ -5,8 +5,8 @@ use Rattle.pdl_scope.specs.Answers.{AnswersAs}
 use Rattle.pdl_session.specs.Arguments.{outcome_of}
 use Rattle.pdl_engine.specs.Reading.{read_steps}
 use Rattle.pdl_scope.specs.Scope.{engine_of}
-use Rattle.pdl_session.proofs.Moved.{two_costs}
-use Rattle.pdl_session.proofs.Shaped.{ranged, range_is}
+use Rattle.pdl_session.proofs.CostCalls.{two_costs}
+use Rattle.pdl_session.proofs.ArgumentShapes.{ranged, range_is}
 use Rattle.pdl_session.proofs.views.choices.range.Goals as goal
 
 pub returns-in-Some-clause-value : goal.returns-in-Some-clause-value

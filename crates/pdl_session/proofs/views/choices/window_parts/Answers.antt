@@ -5,7 +5,7 @@ use Rattle.pdl_scope.specs.Scope.{engine_of}
 use Rattle.pdl_session.specs.declared.given.Given.{Given}
 use Rattle.pdl_session.specs.Arguments.{few_arrays}
 use Rattle.pdl_session.specs.Costs.{all_steps}
-use Rattle.pdl_session.proofs.Moved.{few_two, reads_cost}
+use Rattle.pdl_session.proofs.CostCalls.{few_two, reads_cost}
 use Rattle.pdl_session.proofs.views.choices.window_parts.Goals as goal
 
 few_both : (f : ℕ → ℕ) (given : List Given) (o p : Option ℕ) (v u : ℕ) → Some (o, p) ≡ few_arrays given → o ≡ Some v → p ≡ Some u → f v + f u ≤ all_steps f given

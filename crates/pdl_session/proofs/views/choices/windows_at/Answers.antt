@@ -1,5 +1,5 @@
 use Rattle.pdl_machine.specs.Arrays.{array_in}
-use Rattle.pdl_session.proofs.Moved.{read_then, reads_cost}
+use Rattle.pdl_session.proofs.CostCalls.{read_then, reads_cost}
 use Rattle.pdl_session.proofs.views.choices.windows_at.Goals as goal
 
 pub returns-in-Err-clause-value : goal.returns-in-Err-clause-value

@@ -2,7 +2,7 @@ use Rattle.std.proofs.Common.{◌≡◌, ◌<◌, ◌≤◌, ◌++◌, length, g
 use mir.Val.{SFits}
 use Rattle.std.specs.Fmt.{signed_decimal}
 use Rattle.std.proofs.lemmas.Int.{to_z-of_z}
-use Rattle.pdl_session.proofs.Patterns.{filled_byte, filled_number, filled_short, filled_all, filled_more}
+use Rattle.pdl_session.proofs.NiceCallPatterns.{filled_byte, filled_number, filled_short, filled_all, filled_more}
 use Rattle.pdl_session.proofs.views.nice.filled_in.Goals as goal
 use Rattle.pdl_session.proofs.views.nice.filled_in.Goals.{then-byte-eq35+else-used-numbers+in_ok-push_number, else-byte-eq35+in_ok-push}
 

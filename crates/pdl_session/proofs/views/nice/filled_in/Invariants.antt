@@ -1,4 +1,4 @@
-use Rattle.pdl_session.proofs.Patterns.{IsFilled}
+use Rattle.pdl_session.proofs.NiceCallPatterns.{IsFilled}
 use Rattle.pdl_session.proofs.views.nice.filled_in.Given as goal
 
 abbrev pub invariant-loop-byte : goal.invariant-loop-byte

@@ -2,8 +2,8 @@ use Rattle.std.proofs.Common.{Ok, ap}
 use Rattle.pdl_machine.specs.Views.{slice_by}
 use Rattle.pdl_session.specs.Arguments.{outcome_of}
 use Rattle.pdl_scope.specs.Faults.{of_slice}
-use Rattle.pdl_session.proofs.Facts.{handed_on}
-use Rattle.pdl_session.proofs.Sliced.{by_reading, slice_refused, steps_read}
+use Rattle.pdl_session.proofs.ScopeFacts.{handed_on}
+use Rattle.pdl_session.proofs.RefusalSlices.{by_reading, slice_refused, steps_read}
 use Rattle.pdl_session.proofs.views.slice.sliced.Goals as goal
 
 pub returns-in_err-args-clause-value : goal.returns-in_err-args-clause-value

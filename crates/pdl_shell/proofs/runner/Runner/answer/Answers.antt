@@ -4,8 +4,8 @@ use Rattle.pdl_watch.specs.Slots.{slots_by}
 use Rattle.pdl_shell.specs.declared.runner.Runner.{Runner}
 use Rattle.pdl_shell.specs.Marks.{mark_of}
 use Rattle.pdl_shell.specs.Course.{Answers}
-use Rattle.pdl_shell.proofs.Ran.{script_refused, watcher_refused, memory_refused}
-use Rattle.pdl_shell.proofs.Following.{answers_done, answers_fault, answers_refused, answers_stopped}
+use Rattle.pdl_shell.proofs.RanLemmas.{script_refused, watcher_refused, memory_refused}
+use Rattle.pdl_shell.proofs.CourseFollowed.{answers_done, answers_fault, answers_refused, answers_stopped}
 use Rattle.pdl_shell.proofs.runner.Runner.answer.Goals as goal
 
 pub returns-in-Ok-clause-ran : goal.returns-in-Ok-clause-ran

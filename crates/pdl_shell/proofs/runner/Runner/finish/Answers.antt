@@ -1,6 +1,6 @@
 use Rattle.std.proofs.Common.{refl}
 use Rattle.pdl_shell.specs.declared.stop.Stop.TheVariants.{Watcher}
-use Rattle.pdl_shell.proofs.Carrying.{ends_stopped, ends_short, ends_unflushed, ends_unclosed, ends_whole}
+use Rattle.pdl_shell.proofs.PaceCarried.{ends_stopped, ends_short, ends_unflushed, ends_unclosed, ends_whole}
 use Rattle.pdl_shell.proofs.runner.Runner.finish.Goals as goal
 
 pub returns-in_err-run_last-clause-ends : goal.returns-in_err-run_last-clause-ends

@@ -5,7 +5,7 @@ use Rattle.pdl_shell.specs.declared.runner.Runner.{Runner}
 use Rattle.pdl_shell.specs.declared.stop.Stop.TheVariants.{NoMemory}
 use Rattle.pdl_shell.specs.Outside.{outlets}
 use Rattle.pdl_shell.specs.Course.{Carries}
-use Rattle.pdl_shell.proofs.Carrying.{Feeds, feeds, stops_result, stops_before, stops_in_piece, carries_quiet, carries_piece}
+use Rattle.pdl_shell.proofs.PaceCarried.{Feeds, feeds, stops_result, stops_before, stops_in_piece, carries_quiet, carries_piece}
 use Rattle.pdl_shell.proofs.runner.Runner.round.Goals as goal
 
 pub returns-in_err-fed-clause-stops : goal.returns-in_err-fed-clause-stops

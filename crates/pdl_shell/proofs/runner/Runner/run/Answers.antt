@@ -1,5 +1,5 @@
 use Rattle.std.proofs.Common.{refl}
-use Rattle.pdl_shell.proofs.Following.{runs_unanswered, runs_result, run_written, run_unwritten}
+use Rattle.pdl_shell.proofs.CourseFollowed.{runs_unanswered, runs_result, run_written, run_unwritten}
 use Rattle.pdl_shell.proofs.runner.Runner.run.Goals as goal
 
 pub returns-in_err-reported-clause-short : goal.returns-in_err-reported-clause-short

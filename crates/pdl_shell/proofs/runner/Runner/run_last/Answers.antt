@@ -1,7 +1,7 @@
 use Rattle.std.proofs.Common.{◌≡◌, [], ◌∷◌}
 use Rattle.pdl_shell.specs.Marks.{mark_of}
 use Rattle.pdl_shell.specs.Pace.{behind, marks_left}
-use Rattle.pdl_shell.proofs.Carrying.{ok_then, err_then, finishes_ended, finishes_none, finishes_mark, finishes_short}
+use Rattle.pdl_shell.proofs.PaceCarried.{ok_then, err_then, finishes_ended, finishes_none, finishes_mark, finishes_short}
 use Rattle.pdl_shell.proofs.runner.Runner.run_last.Goals as goal
 
 pub returns-then-self-clause-finishes : goal.returns-then-self-clause-finishes

@@ -1,7 +1,7 @@
 use Rattle.std.proofs.Common.{arith}
 use Rattle.std.proofs.lemmas.Grind.{common_steps}
 use Rattle.std.proofs.lemmas.List.{take_rest, drop-drop}
-use Rattle.pdl_shell.proofs.Carrying.{stops_result, stops_then, carries_then, carries_ended}
+use Rattle.pdl_shell.proofs.PaceCarried.{stops_result, stops_then, carries_then, carries_ended}
 use Rattle.pdl_shell.proofs.runner.Runner.take.Goals as goal
 
 pub taking-preserved : goal.taking-preserved

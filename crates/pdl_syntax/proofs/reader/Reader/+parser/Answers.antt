@@ -2,10 +2,10 @@ use Rattle.std.proofs.Common.{◌≡◌, ◌∙◌, ◌-◌, ◌+◌, suc, lengt
 use Rattle.pdl_syntax.specs.Tree.{none, value}
 use Rattle.pdl_syntax.specs.TreeOf.{tree_of, args_of}
 use Rattle.pdl_syntax.specs.ExpressionReading.{reader, level_at, limit_of, grown_at, unary_at, arg_at, chain_at, methods_at, more_at, maybe_at}
-use Rattle.pdl_syntax.proofs.Turns.{begun, chain_fail, chain_last, chain_stop, chain_turn, methods_fail, methods_last, methods_stop, methods_turn, more_fail, more_last, more_stop, more_turn}
-use Rattle.pdl_syntax.proofs.Growing.{level_read, level_unread}
-use Rattle.pdl_syntax.proofs.Climbing.{climb_at, joined_at, grown_is, climb_turn, climb_fail, climb_ends}
-use Rattle.pdl_syntax.proofs.StatementTurns.{pass_on}
+use Rattle.pdl_syntax.proofs.ExpressionReadingTurns.{begun, chain_fail, chain_last, chain_stop, chain_turn, methods_fail, methods_last, methods_stop, methods_turn, more_fail, more_last, more_stop, more_turn}
+use Rattle.pdl_syntax.proofs.ExpressionReadingGrowing.{level_read, level_unread}
+use Rattle.pdl_syntax.proofs.ExpressionReadingClimbing.{climb_at, joined_at, grown_is, climb_turn, climb_fail, climb_ends}
+use Rattle.pdl_syntax.proofs.StatementReadingTurns.{pass_on}
 use Rattle.std.proofs.lemmas.Result.{err_from_is_err_and}
 use Rattle.pdl_lemmas.specs.Numbers.{one_less}
 use Rattle.pdl_syntax.proofs.reader.Reader.+parser.Goals as goal

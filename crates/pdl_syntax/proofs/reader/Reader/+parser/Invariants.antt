@@ -4,7 +4,7 @@ use Rattle.pdl_syntax.specs.Tree.{Tree, Args, none}
 use Rattle.pdl_syntax.specs.TreeOf.{tree_of, args_of}
 use Rattle.pdl_syntax.specs.ExpressionReading.{reader, level_at, grown_at, chain_at, limit_of, methods_at, more_at}
 use Rattle.pdl_lexemes.specs.Peeks.{Read}
-use Rattle.pdl_syntax.proofs.Climbing.{climb_at}
+use Rattle.pdl_syntax.proofs.ExpressionReadingClimbing.{climb_at}
 use Rattle.pdl_syntax.proofs.reader.Reader.+parser.Given as goal
 
 -- what is left to read gives the same as what stood there at the start

@@ -1,7 +1,7 @@
 use Rattle.std.proofs.Common.{◌∙◌, ap}
 use Rattle.pdl_syntax.specs.Tree.{call, none}
 use Rattle.pdl_syntax.specs.TreeOf.{args_of}
-use Rattle.pdl_syntax.proofs.Trees.{tree_of_call}
+use Rattle.pdl_syntax.proofs.TreeLemmas.{tree_of_call}
 use Rattle.pdl_syntax.proofs.reader.Reader.call_expr.Goals as goal
 
 pub returns-clause-ok : goal.returns-clause-ok

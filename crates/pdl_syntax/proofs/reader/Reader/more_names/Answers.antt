@@ -1,7 +1,7 @@
 use Rattle.std.proofs.Common.{◌∙◌, ◌-◌, ◌+◌, sym, ap}
 use Rattle.pdl_lemmas.specs.Numbers.{one_less}
 use Rattle.pdl_syntax.specs.StatementReading.{names_at}
-use Rattle.pdl_syntax.proofs.StatementTurns.{names_stop_at, names_next, names_fail}
+use Rattle.pdl_syntax.proofs.StatementReadingTurns.{names_stop_at, names_next, names_fail}
 use Rattle.pdl_syntax.proofs.reader.Reader.more_names.Goals as goal
 
 pub returns-in-None : goal.returns-in-None

@@ -6,7 +6,7 @@ use Rattle.pdl_syntax.specs.StatementReading.{views_at}
 use Rattle.pdl_syntax.specs.StatementTree.{view_of}
 use Rattle.pdl_syntax.specs.Tree.{none}
 use Rattle.pdl_syntax.specs.TreeOf.{args_of}
-use Rattle.pdl_syntax.proofs.StatementTurns.{views_stop_at, views_next, views_fail, pass_on}
+use Rattle.pdl_syntax.proofs.StatementReadingTurns.{views_stop_at, views_next, views_fail, pass_on}
 use Rattle.pdl_syntax.proofs.reader.Reader.views.Goals as goal
 
 pub returns-in-None : goal.returns-in-None

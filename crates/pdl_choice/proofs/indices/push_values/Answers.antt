@@ -1,0 +1,11 @@
+-- Each value in turn gives its place.
+use Rattle.std.proofs.Common.{ℤ, Some, rules}
+use Rattle.std.proofs.lemmas.Iterator.{YieldsList-from_map, YieldsList-from_slice}
+use Rattle.std.proofs.lemmas.Iterator.Adapters.{items_from_extend}
+use Rattle.std.proofs.lemmas.Iterator.Consumers.{YieldsList-at}
+use Rattle.std.proofs.lemmas.Result.{on_ok_weaker}
+use Rattle.pdl_choice.specs.Rounds.{counted_place}
+use Rattle.pdl_choice.proofs.indices.push_values.Goals as goal
+
+pub returns : goal.returns
+returns c = on_ok_weaker c.extend.result (λ all. all.0) (items_from_extend c.extend.result c.extend.ensures.ran (YieldsList-from_map _ (λ (value : ℤ). Some (counted_place c.args.size c.args.past value)) (YieldsList-at c.map.ensures.source (YieldsList-from_slice c.args.values.now cc)) c.map.ensures.closure (λ x r q k. search rules)))
