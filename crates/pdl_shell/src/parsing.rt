@@ -42,7 +42,9 @@ pub(crate) fn plain_text<'a>(text: &'a [u8], written: &'a [u8], is_nice: bool) -
 }
 
 // Finds the tokens of the plain text of a text, and answers whether the text has nice slices: where
-// it has some the plain text is written, and else it is the text itself.
+// it has some the plain text is written, and else it is the text itself. It is put in line where each
+// statement comes by.
+#[inline(always)]
 pub(crate) fn find_tokens(text: &[u8], rooms: &mut Rooms) -> Result<bool, StepFault>
     requires { length text.now ≤ statement_limit }
     ensures found { IfOk result (λ is_nice.
