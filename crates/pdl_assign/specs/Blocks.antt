@@ -1,7 +1,12 @@
 -- What an assignment of an array to another writes, whole and in blocks.
-use Rattle.std.specs.Prelude.{◌≡◌, ◌⊎◌, ◌≤◌, ℕ, ℤ, true, false, List, [], length, Result, Ok, Err}
+use Rattle.std.specs.Prelude.{◌≡◌, ◌≢◌, ◌⊎◌, ◌≤◌, ℕ, ℤ, pos, true, false, List, [], length, get_or, Result, Ok, Err}
+use Rattle.pdl_elem.specs.declared.Ty.{Ty}
+use Rattle.pdl_elem.specs.Numbers.{wrapped}
+use Rattle.pdl_elem.specs.Types.{promoted}
+use Rattle.pdl_shape.specs.Shape.{size_of}
 use Rattle.pdl_shape.specs.Stretched.{stretched}
 use Rattle.pdl_buf.specs.Made.{array_of}
+use Rattle.pdl_buf.specs.Window.{Window}
 use Rattle.pdl_lexemes.specs.declared.AssignOp.{AssignOp}
 use Rattle.pdl_lexemes.specs.declared.AssignOp.TheVariants.{Set, With}
 use Rattle.pdl_ops.specs.Elementwise.{OpRefusal}
@@ -49,6 +54,24 @@ pub record CanBlock (sign : AssignOp) (w : World) (v u : ℕ) : Type 0 where
   pub steady : has_repeats (places_in w (base w v)) ≡ false
   pub few : length (dims_in w u) ≤ length (dims_in w v)
   pub reads : ReadsAsAtStart sign w v u
+
+-- the first element of a window, wrapped to a type
+abbrev pub number_at : Ty → Window → ℤ
+number_at ty x = wrapped ty (get_or x.elems 0 (pos 0))
+
+-- a window shows one number, which isn't 0 at a type, and an operator on it and on numbers of the
+-- type works at the type
+pub record IsOneNumber (ty : Ty) (x : Window) : Type 0 where
+  pub one : size_of x.dims ≡ 1
+  pub works_at : promoted ty x.ty ≡ ty
+  pub some : number_at ty x ≢ pos 0
+
+-- an assignment of u to v changes each element of v by one number where it stands: the sign is an
+-- operator, v's elements stand in its root, and u is the number
+abbrev pub IsUpdate : AssignOp → State → (v u : ℕ) → Type 0
+IsUpdate Set e v u = ⊥
+IsUpdate (With op) e v u =
+    (base e.world v ≡ root_of e.world v) × IsOneNumber (ty_in e.world v) (shown_in e u)
 
 -- the values that were found, and none where the first refusal came
 abbrev pub list_of : Result (List ℤ) OpRefusal → List ℤ

@@ -1,5 +1,6 @@
 //! An assignment, block by block.
-ghost use Rattle.std.specs.Prelude.{◌≡◌, ℕ, ◌+◌, ◌≤◌, ◌<◌, ◌^◌, length, map, false, true, is_ok, Ok, All, OnOk, OnErr, IfErr, IfSome};
+ghost use Rattle.std.specs.Prelude.{◌≡◌, ℕ, ◌+◌, ◌≤◌, ◌<◌, ◌^◌, length, map, false, true, is_ok, Ok, All, OnOk, OnErr, IfErr, IfSome, IsSome, IsTrue, ◌↔◌};
+ghost use Rattle.std.specs.Option.{SomeIff};
 ghost use Rattle.pdl_elem.specs.Types.{InRange, promoted};
 ghost use Rattle.pdl_numbers.specs.Updates.{Suits, updated};
 ghost use Rattle.pdl_shape.specs.Broadcast.{BroadcastsTo};
@@ -11,7 +12,7 @@ ghost use Rattle.pdl_world.specs.Paths.{root_of};
 ghost use Rattle.pdl_world.specs.Windows.{base};
 ghost use Rattle.pdl_world.specs.World.{dims_in, elements, has_repeats, places_in, ty_in};
 ghost use Rattle.pdl_engine.specs.State.{is_fresh};
-ghost use Rattle.pdl_assign.specs.Blocks.{AreWritten, CanBlock, IsAssigned, IsWritten, block_in, values_in, written_in};
+ghost use Rattle.pdl_assign.specs.Blocks.{AreWritten, CanBlock, IsAssigned, IsOneNumber, IsUpdate, IsWritten, block_in, number_at, values_in, written_in};
 
 use pdl_buf::{
     Steps, Strided, stretched, strided_dims, strided_get, strided_is_in_range, strided_read,
@@ -172,15 +173,31 @@ fn write_blocks<L: Ledger, const ROOM: usize>(
 
 /// Whether an operator on a number of each of the two types works at the first.
 fn works_at(ty: Ty, other: Ty) -> bool
-    ensures { result ≡ true → promoted ty other ≡ ty }
+    ensures { IsTrue result ↔ (promoted ty other ≡ ty) }
 {
     promote(ty, other) == ty
 }
 
-/// The update that an assignment is that nothing refuses: its right side is one number, the operator
-/// works at the target's type, and the target's elements stand in its root.
+/// The one number that a window shows, at a type at which an operator on it and on numbers of the
+/// type works. 0 is none: where the operator divides, there is nothing to write.
+fn one_number(ty: Ty, from: &Strided<'_>) -> Option<i64>
+    ensures { SomeIff result (IsOneNumber ty from.now) (number_at ty from.now) }
+{
+    let is_one = elements_of(strided_dims(from)) == 1;
+    if !is_one {
+        return None;
+    }
+    if !works_at(ty, strided_type(from)) {
+        return None;
+    }
+    let number = wrap(ty, i128::from(strided_get(from, 0)));
+    let is_zero = number == 0;
+    if is_zero { None } else { Some(number) }
+}
+
+/// The update that an assignment is that nothing refuses, exactly where its sign is an operator, the
+/// target's elements stand in its root, and the right side is one number.
 fn update_of(engine: &Engine, sign: AssignOp, target: ArrayId, source: ArrayId) -> Option<Update>
-    requires sound { IsSound engine.now.world }
     requires target { IsLive engine.now.world target }
     requires source { IsLive engine.now.world source }
     requires target_fresh { is_fresh engine.now target ≡ true }
@@ -189,6 +206,7 @@ fn update_of(engine: &Engine, sign: AssignOp, target: ArrayId, source: ArrayId) 
         BroadcastsTo (dims_in w source) (dims_in w target) }
     requires can { CanBlock sign engine.now.world target source }
     requires never { is_ok (written_in sign engine.now.world target source) ≡ true }
+    ensures found { IsSome result ↔ IsUpdate sign engine.now target source }
     ensures over_root { let w = engine.now.world in
         IfSome result (λ change. base w target ≡ root_of w target) }
     ensures once { let w = engine.now.world in
@@ -211,14 +229,7 @@ fn update_of(engine: &Engine, sign: AssignOp, target: ArrayId, source: ArrayId) 
     let _count = strided_dims(&into);
     let from = engine.lend(source);
     let ty = engine.ty(target);
-    if elements_of(strided_dims(&from)) != 1 || !works_at(ty, strided_type(&from)) {
-        return None;
-    }
-    let number = wrap(ty, i128::from(strided_get(&from, 0)));
-    // 0 is left to blocks: where the operator divides, there is nothing to write.
-    if number == 0 {
-        return None;
-    }
+    let number = one_number(ty, &from)?;
     Some(Update { op, number })
 }
 

@@ -1,5 +1,5 @@
 //! When an assignment can be made block by block.
-ghost use Rattle.std.specs.Prelude.{◌≡◌, true};
+ghost use Rattle.std.specs.Prelude.{◌≡◌, ◌↔◌, IsTrue, true};
 ghost use Rattle.pdl_lexemes.specs.declared.AssignOp.TheVariants.{Set};
 ghost use Rattle.pdl_world.specs.Sound.{IsLive};
 ghost use Rattle.pdl_engine.specs.State.{is_fresh};
@@ -11,7 +11,7 @@ use pdl_shape::dims_list;
 
 /// Whether a sign reads no element of the target.
 fn is_set(sign: AssignOp) -> bool
-    ensures { result ≡ true → sign ≡ Set }
+    ensures { IsTrue result ↔ (sign ≡ Set) }
 {
     matches!(sign, AssignOp::Set)
 }

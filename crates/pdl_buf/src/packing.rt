@@ -148,6 +148,16 @@ impl Packing {
         })
     }
 
+    /// Numbers that are packed already, which are moved in.
+    pub fn of(numbers: Numbers) -> Packing
+        ensures { result ≡ elements_in numbers }
+    {
+        Packing {
+            ty: numbers.ty(),
+            form: Form::Packed(numbers),
+        }
+    }
+
     /// Puts these numbers, which are in the type's range, after the others. Out of memory it
     /// puts none.
     pub fn extend(&mut self, numbers: &[i64]) -> Result<(), AllocError>

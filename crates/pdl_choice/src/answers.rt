@@ -4,16 +4,12 @@ ghost use Rattle.pdl_shape.specs.Shape.{extent, extent_limit, size_of};
 ghost use Rattle.pdl_shape.specs.Limits.{checked_dims};
 ghost use Rattle.pdl_choice.specs.Choice.{Makes, position_in};
 
-use pdl_elem::Items;
+use crate::Places;
 use pdl_shape::{Dims, ShapeFault, dims_of, size};
 use std::alloc::{AllocError, Global};
 
 /// Out of memory.
 pub use std::alloc::AllocError as NoMemory;
-
-/// The position in the parent for each position of a view, in order; `None` beyond an edge that
-/// reads 0. Contracts see the list.
-pub type Places = Items<Option<u32>>;
 
 /// A view that picks places of its parent.
 #[derive(Drop, Debug)]

@@ -27,11 +27,9 @@ pub fn clump_list(alloc: Global, source: &Dims, count: i64) -> Result<Choice, Ch
         return Err(ChoiceFault::BadDimension);
     };
     let dims = clumped(alloc, parent, joined)?;
-    let places = all_places(alloc, elements_of(source))?;
-    Ok(Choice {
-        dims,
-        places: Places::new(places),
-    })
+    let list = all_places(alloc, elements_of(source))?;
+    let places = Places::new(list)?;
+    Ok(Choice { dims, places })
 }
 
 /// The dimensions with the first `joined` of them as one.

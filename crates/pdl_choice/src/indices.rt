@@ -45,7 +45,7 @@ pub fn index(
 {
     let parent = dims_list(source);
     let dims = looked_up(alloc, parent, ind_dims, ind)?;
-    let places = index_places(
+    let list = index_places(
         alloc,
         parent,
         dims_list(ind_dims),
@@ -53,10 +53,8 @@ pub fn index(
         dims_list(&dims),
         elements_of(&dims),
     )?;
-    Ok(Choice {
-        dims,
-        places: Places::new(places),
-    })
+    let places = Places::new(list)?;
+    Ok(Choice { dims, places })
 }
 
 /// The dimensions of the view, or the first refusal.

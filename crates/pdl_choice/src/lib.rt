@@ -12,14 +12,16 @@ mod edges;
 mod indices;
 mod laws;
 mod masks;
+mod places;
 mod reach;
 mod rounds;
 mod windows;
 
-pub use answers::{Choice, ChoiceFault, NoMemory, Places};
+pub use answers::{Choice, ChoiceFault, NoMemory};
 pub use clumps::clump_list;
 pub use edges::Edge;
 pub use indices::index;
 pub use laws::choice_laws;
 pub use masks::{Positions, listed_places, where_places, which_places};
+pub use places::Places;
 pub use windows::range;

@@ -78,11 +78,9 @@ pub fn listed_places(
         return Err(ChoiceFault::Mismatch);
     }
     let dims = line(alloc, places.len() as u32);
-    let places = as_places(alloc, places)?;
-    Ok(Choice {
-        dims,
-        places: Places::new(places),
-    })
+    let list = as_places(alloc, places)?;
+    let places = Places::new(list)?;
+    Ok(Choice { dims, places })
 }
 
 /// The same positions, as places.

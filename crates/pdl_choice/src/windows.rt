@@ -94,8 +94,8 @@ fn ranged(
         Err(fault) => return Err(fault),
     };
     let (corners, count) = (count_of(outer), elements_of(&dims));
-    let places = window_places(alloc, edge, parent, windows, ind, corners, count)?;
-    let places = Places::new(places);
+    let list = window_places(alloc, edge, parent, windows, ind, corners, count)?;
+    let places = Places::new(list)?;
     Ok(Choice { dims, places })
 }
 

@@ -64,7 +64,7 @@ pub number_again : (t : Ty) (n : ℤ) → InRange t n → number_of t (bytes_of 
 number_again t n r = word_again t n ∙ pattern_again t n r
 
 -- the bytes of a number of the type are packed
-packed_again : (t : Ty) (n : ℤ) (bytes : List ℕ) → InRange t n → bytes ≡ bytes_of t n → IsPacked t bytes
+pub packed_again : (t : Ty) (n : ℤ) (bytes : List ℕ) → InRange t n → bytes ≡ bytes_of t n → IsPacked t bytes
 packed_again t n bytes r e = ap (λ (b : List ℕ). bytes_of t (number_of t b)) e ∙ ap (bytes_of t) (number_again t n r) ∙ sym e
 
 -- ---- lists of them

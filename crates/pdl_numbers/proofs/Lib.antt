@@ -5,6 +5,8 @@ pub mod ShownInOrder
 pub mod ReadRuns
 pub mod TypedParts
 pub mod Summing
+pub mod PrefixLemmas
 pub mod ShownLemmas
 pub mod WriteRuns
 pub mod UpdateLemmas
+pub mod PlacedCells

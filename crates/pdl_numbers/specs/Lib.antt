@@ -5,4 +5,5 @@ pub mod Shown
 pub mod Reads
 pub mod Writes
 pub mod Updates
+pub mod Prefixes
 pub mod Laws

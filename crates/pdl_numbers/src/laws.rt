@@ -1,5 +1,5 @@
-//! Laws of what a triple shows, for the proofs of the crates above.
-ghost use Rattle.pdl_numbers.specs.Laws.{ShownLaws};
+//! Laws of what a triple shows and of what numbers come to, for the proofs of the crates above.
+ghost use Rattle.pdl_numbers.specs.Laws.{PrefixLaws, ShownLaws};
 
 use pdl_shape::shape_laws;
 
@@ -9,3 +9,8 @@ pub fn shown_laws()
 {
     shape_laws();
 }
+
+/// What numbers come to up to each of them. It does nothing: who calls it has the laws.
+pub fn prefix_laws()
+    ensures { PrefixLaws }
+{}

@@ -9,6 +9,7 @@ mod laws;
 mod numbers;
 mod packed;
 mod placement;
+mod prefixes;
 mod ranges;
 mod reads;
 mod routes;
@@ -17,8 +18,9 @@ mod updates;
 mod values;
 mod writes;
 
-pub use laws::shown_laws;
+pub use laws::{prefix_laws, shown_laws};
 pub use numbers::{Numbers, numbers_of};
 pub use placement::Placement;
+pub use prefixes::Folding;
 pub use routes::Route;
 pub use updates::Update;

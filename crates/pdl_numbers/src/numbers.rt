@@ -1,5 +1,5 @@
 //! Numbers of one type, in its width. Each call looks at the type once.
-ghost use Rattle.std.specs.Prelude.{◌≡◌, ◌≢◌, ◌<◌, ◌≤◌, ◌+◌, ◌^◌, ◌++◌, ℕ, ℤ, [], pos, length, take, drop, map, get_or, slice_set, All, IsTrue, IfOk, OnOk, OnErr};
+ghost use Rattle.std.specs.Prelude.{◌≡◌, ◌≢◌, ◌<◌, ◌≤◌, ◌+◌, ◌^◌, ◌++◌, ℕ, ℤ, [], pos, length, take, drop, fold, map, get_or, slice_set, All, IsTrue, IfOk, OnOk, OnErr};
 ghost use Rattle.std.specs.List.{flat_map, range_with_len};
 ghost use Rattle.pdl_elem.specs.Blocks.{pairwise};
 ghost use Rattle.pdl_elem.specs.Operators.{divides, value_of};
@@ -7,9 +7,10 @@ ghost use Rattle.pdl_elem.specs.Types.{InRange};
 ghost use Rattle.pdl_shape.specs.Places.{AllBelow, read, write};
 ghost use Rattle.pdl_shape.specs.Shape.{extent_limit, size_of};
 ghost use Rattle.pdl_shape.specs.Triple.{Reaches};
-ghost use Rattle.pdl_numbers.specs.Typed.{TypedElements, count_moved};
+ghost use Rattle.pdl_numbers.specs.Typed.{TypedElements};
 ghost use Rattle.pdl_numbers.specs.Bytes.{bytes_of};
 ghost use Rattle.pdl_numbers.specs.Numbers.{elements_in};
+ghost use Rattle.pdl_numbers.specs.Prefixes.{wrapped_prefixes};
 ghost use Rattle.pdl_numbers.specs.Reads.{HasRead, HasReadAcross, LieAcross, across};
 ghost use Rattle.pdl_numbers.specs.Shown.{shown_through};
 ghost use Rattle.pdl_numbers.specs.Updates.{ShowsOnce, Suits, updated};
@@ -18,6 +19,7 @@ ghost use Rattle.pdl_numbers.specs.Writes.{onward, placed_from};
 use crate::across::read_across;
 use crate::packed::{AtByte, AtLong, AtLonglong, AtSbyte, AtShort, AtUlong, AtUshort, Packed};
 use crate::placement::Placement;
+use crate::prefixes::Folding;
 use crate::reads::read_block;
 use crate::routes::Route;
 use crate::updates::{Update, update_shown};
@@ -103,6 +105,30 @@ impl Numbers {
         }
     }
 
+    /// Puts what numbers come to up to each of them, from a start on, wrapped to the type, after
+    /// the others, each as it is found. It answers what all come to.
+    pub fn extend_prefixes<F: Folding>(
+        &mut self,
+        start: i64,
+        numbers: &[i64],
+    ) -> Result<i64, AllocError>
+        ensures value { IfOk result (λ end. end ≡ fold F.taken start numbers.now) }
+        ensures ok { let old = elements_in self.old in
+            let new = wrapped_prefixes old.ty F.taken start numbers.now in
+            OnOk result (elements_in self.new ≡ record old { elems = old.elems ++ new }) }
+        ensures err { OnErr result (elements_in self.new ≡ elements_in self.old) }
+    {
+        match self {
+            Numbers::Sbytes(packed) => packed.extend_prefixes::<F>(start, numbers),
+            Numbers::Bytes(packed) => packed.extend_prefixes::<F>(start, numbers),
+            Numbers::Shorts(packed) => packed.extend_prefixes::<F>(start, numbers),
+            Numbers::Ushorts(packed) => packed.extend_prefixes::<F>(start, numbers),
+            Numbers::Longs(packed) => packed.extend_prefixes::<F>(start, numbers),
+            Numbers::Ulongs(packed) => packed.extend_prefixes::<F>(start, numbers),
+            Numbers::Longlongs(packed) => packed.extend_prefixes::<F>(start, numbers),
+        }
+    }
+
     /// The numbers, packed at a type in whose range they are. Those of the type are moved.
     pub fn at_type(self, alloc: Global, ty: Ty) -> Result<Numbers, AllocError>
         requires { All (InRange ty) (elements_in self).elems }
@@ -164,21 +190,6 @@ impl Numbers {
             Numbers::Longs(packed) => packed.read_from(start, into),
             Numbers::Ulongs(packed) => packed.read_from(start, into),
             Numbers::Longlongs(packed) => packed.read_from(start, into),
-        }
-    }
-
-    /// How many of the numbers aren't 0.
-    pub fn moved(&self) -> usize
-        ensures { result ≡ count_moved (elements_in self.now).elems }
-    {
-        match self {
-            Numbers::Sbytes(packed) => packed.moved(),
-            Numbers::Bytes(packed) => packed.moved(),
-            Numbers::Shorts(packed) => packed.moved(),
-            Numbers::Ushorts(packed) => packed.moved(),
-            Numbers::Longs(packed) => packed.moved(),
-            Numbers::Ulongs(packed) => packed.moved(),
-            Numbers::Longlongs(packed) => packed.moved(),
         }
     }
 
@@ -404,41 +415,21 @@ impl Numbers {
         }
     }
 
-    /// Sets `into` to the numbers at the places, and to 0 where there is none among these.
-    fn read_at(&self, places: &[Option<u32>], into: &mut [i64])
-        requires { length into.old ≡ length places.now }
-        ensures value { into.new ≡ read places.now (elements_in self.now).elems }
-        ensures in_range { All (InRange (elements_in self.now).ty) into.new }
-    {
-        match self {
-            Numbers::Sbytes(packed) => packed.read_at(places, into),
-            Numbers::Bytes(packed) => packed.read_at(places, into),
-            Numbers::Shorts(packed) => packed.read_at(places, into),
-            Numbers::Ushorts(packed) => packed.read_at(places, into),
-            Numbers::Longs(packed) => packed.read_at(places, into),
-            Numbers::Ulongs(packed) => packed.read_at(places, into),
-            Numbers::Longlongs(packed) => packed.read_at(places, into),
-        }
-    }
-
-    /// The numbers at the places, with 0 where there is none among these, packed block by block.
+    /// The numbers at the places, with 0 where there is none among these.
     pub fn gathered(&self, alloc: Global, places: &[Option<u32>]) -> Result<Numbers, AllocError>
         ensures { let elems = read places.now (elements_in self.now).elems in
             IfOk result (λ kept.
             elements_in kept ≡ record (elements_in self.now) { elems = elems }) }
     {
-        let count = places.len();
-        let mut numbers = Numbers::with_room(alloc, self.ty(), count)?;
-        let mut block = vec![in alloc; 0; count.min(BLOCK)]?;
-        let mut done = 0;
-        while done < count {
-            block.truncate(count - done);
-            let end = done + block.len();
-            self.read_at(&places[done..end], &mut block);
-            numbers.extend(&block)?;
-            done = end;
-        }
-        Ok(numbers)
+        Ok(match self {
+            Numbers::Sbytes(packed) => Numbers::Sbytes(packed.gathered(alloc, places)?),
+            Numbers::Bytes(packed) => Numbers::Bytes(packed.gathered(alloc, places)?),
+            Numbers::Shorts(packed) => Numbers::Shorts(packed.gathered(alloc, places)?),
+            Numbers::Ushorts(packed) => Numbers::Ushorts(packed.gathered(alloc, places)?),
+            Numbers::Longs(packed) => Numbers::Longs(packed.gathered(alloc, places)?),
+            Numbers::Ulongs(packed) => Numbers::Ulongs(packed.gathered(alloc, places)?),
+            Numbers::Longlongs(packed) => Numbers::Longlongs(packed.gathered(alloc, places)?),
+        })
     }
 
     /// The numbers that a placement shows, from a position on.

@@ -1,5 +1,5 @@
 //! Lists of numbers of one type, each kept as the bytes of its type.
-ghost use Rattle.std.specs.Prelude.{◌≡◌, ◌≢◌, ◌<◌, ◌≤◌, ◌+◌, ◌^◌, ◌+ℤ◌, ◌*ℤ◌, ℕ, ℤ, IsTrue, List, [], ◌++◌, pos, length, take, drop, map, get_or, slice_set, All, IfOk, OnOk, OnErr};
+ghost use Rattle.std.specs.Prelude.{◌≡◌, ◌≢◌, ◌<◌, ◌≤◌, ◌+◌, ◌^◌, ◌+ℤ◌, ◌*ℤ◌, ℕ, ℤ, IsTrue, List, [], ◌++◌, pos, length, take, drop, fold, map, get_or, slice_set, All, IfOk, OnOk, OnErr};
 ghost use Rattle.std.specs.List.{flat_map, range_with_len};
 ghost use Rattle.std.proofs.Common.{rules};
 ghost use Rattle.pdl_elem.specs.declared.Ty.{Ty};
@@ -10,14 +10,15 @@ ghost use Rattle.pdl_elem.specs.Types.{InRange};
 ghost use Rattle.pdl_shape.specs.Places.{AllBelow, IsBelow, element_at, put, read, write};
 ghost use Rattle.pdl_shape.specs.Shape.{extent_limit, size_of};
 ghost use Rattle.pdl_shape.specs.Triple.{Reaches};
+ghost use Rattle.pdl_numbers.specs.Prefixes.{wrapped_prefixes};
 ghost use Rattle.pdl_numbers.specs.Reads.{IsInside};
-ghost use Rattle.pdl_numbers.specs.Typed.{count_moved};
 ghost use Rattle.pdl_numbers.specs.Updates.{cell_with, change, value_with};
 ghost use Rattle.pdl_numbers.specs.Writes.{stepped};
 ghost use Rattle.pdl_numbers.specs.Shown.{shown_through};
-ghost use Rattle.pdl_numbers.specs.Bytes.{ArePacked, bytes_of, number_of};
+ghost use Rattle.pdl_numbers.specs.Bytes.{ArePacked, IsPacked, bytes_of, number_of};
 
 use crate::placement::{Placement, place_after};
+use crate::prefixes::{Folding, pack_prefixes};
 use crate::routes::Route;
 use pdl_elem::{KnownOp, Ty, apply, block_laws, wrap, wrapping_laws};
 use pdl_shape::shape_laws;
@@ -336,6 +337,96 @@ fn unpack_all<T: PackedType<N>, const N: usize>(cells: &[[u8; N]], numbers: &mut
     }
 }
 
+/// Sets a cell of 0 to the one at a place among others, where there is one.
+fn fetch_cell<T: PackedType<N>, const N: usize>(
+    from: &[[u8; N]],
+    place: Option<u32>,
+    cell: &mut [u8; N],
+)
+    requires zero { cell.old ≡ bytes_of T.ty (pos 0) }
+    requires packed { ArePacked T.ty from.now }
+    ensures { cell.new ≡ bytes_of T.ty (element_at (map (number_of T.ty) from.now) place) }
+{
+    match place {
+        Some(place) if (place as usize) < from.len() => *cell = from[place as usize],
+        _ => {}
+    }
+}
+
+/// Sets each of these cells of 0 to the one at its place among others, where there is one.
+fn gather_cells<T: PackedType<N>, const N: usize>(
+    from: &[[u8; N]],
+    places: &[Option<u32>],
+    cells: &mut [[u8; N]],
+)
+    requires paired { length cells.old ≡ length places.now }
+    requires zeros { All (λ cell. cell ≡ bytes_of T.ty (pos 0)) cells.old }
+    requires packed { ArePacked T.ty from.now }
+    ensures { cells.new ≡ map (bytes_of T.ty) (read places.now (map (number_of T.ty) from.now)) }
+{
+    for (i, place) in places.iter().enumerate() {
+        fetch_cell::<T, N>(from, *place, &mut cells[i]);
+    }
+}
+
+/// Sets the cell at a place, where there is one among these.
+fn put_cell<T: PackedType<N>, const N: usize>(
+    place: Option<u32>,
+    cell: &[u8; N],
+    cells: &mut [[u8; N]],
+)
+    requires cell { IsPacked T.ty cell.now }
+    requires packed { ArePacked T.ty cells.old }
+    ensures packed { ArePacked T.ty cells.new }
+    ensures value { map (number_of T.ty) cells.new
+        ≡ put place (number_of T.ty cell.now) (map (number_of T.ty) cells.old) }
+{
+    match place {
+        Some(place) if (place as usize) < cells.len() => cells[place as usize] = *cell,
+        _ => {}
+    }
+}
+
+/// Sets the cells at the places to other cells, in order. One without a place among these is
+/// dropped.
+fn copy_cells<T: PackedType<N>, const N: usize>(
+    places: &[Option<u32>],
+    from: &[[u8; N]],
+    cells: &mut [[u8; N]],
+)
+    requires paired { length places.now ≡ length from.now }
+    requires from_packed { ArePacked T.ty from.now }
+    requires packed { ArePacked T.ty cells.old }
+    ensures packed { ArePacked T.ty cells.new }
+    ensures value { map (number_of T.ty) cells.new
+        ≡ write places.now (map (number_of T.ty) from.now) (map (number_of T.ty) cells.old) }
+{
+    for (i, place) in places.iter().enumerate() {
+        put_cell::<T, N>(*place, &from[i], cells);
+    }
+}
+
+/// Sets the cells at the places that a route gives to the first positions to the bytes of the
+/// values, in order. A value without a place among these is dropped.
+fn pack_by<R: Route, T: PackedType<N>, const N: usize>(
+    route: &R,
+    values: &[i64],
+    cells: &mut [[u8; N]],
+)
+    requires few { length values.now ≤ R.count route.now }
+    requires small { length values.now < 2 ^ 32 }
+    requires in_range { All (InRange T.ty) values.now }
+    requires packed { ArePacked T.ty cells.old }
+    ensures packed { ArePacked T.ty cells.new }
+    ensures value { let places = map (R.goes_to route.now) (range_with_len 0 (length values.now)) in
+        map (number_of T.ty) cells.new
+        ≡ write places values.now (map (number_of T.ty) cells.old) }
+{
+    for (i, value) in values.iter().enumerate() {
+        put_cell::<T, N>(route.place(i as u32), &T::pack(*value), cells);
+    }
+}
+
 impl<T: PackedType<N>, const N: usize> Packed<T, N> {
     /// The cells in which the numbers stand, in order. A loop over them looks up once where they
     /// are.
@@ -393,6 +484,25 @@ impl<T: PackedType<N>, const N: usize> Packed<T, N> {
         self.cells.resize(start + left.len(), [0; N])?;
         pack_values::<O, T, N>(left, right, &mut self.cells[start..]);
         Ok(())
+    }
+
+    /// Puts what numbers come to up to each of them, from a start on, wrapped to the type, after
+    /// the others. It answers what all come to.
+    pub(crate) fn extend_prefixes<F: Folding>(
+        &mut self,
+        start: i64,
+        numbers: &[i64],
+    ) -> Result<i64, AllocError>
+        ensures value { IfOk result (λ end. end ≡ fold F.taken start numbers.now) }
+        ensures ok { let new = wrapped_prefixes T.ty F.taken start numbers.now in
+            OnOk result (self.new ≡ self.old ++ new) }
+        ensures err { OnErr result (self.new ≡ self.old) }
+    {
+        wrapping_laws();
+        let first = self.cells.len();
+        self.cells.resize(first + numbers.len(), [0; N])?;
+        let end = pack_prefixes::<F, T, N>(start, numbers, &mut self.cells[first..]);
+        Ok(end)
     }
 
     /// Sets `into` to the numbers from a place on, of which there are enough.
@@ -466,19 +576,6 @@ impl<T: PackedType<N>, const N: usize> Packed<T, N> {
         update_all::<O, T, N>(number, &mut self.cells[start..end]);
     }
 
-    /// How many of the numbers aren't 0.
-    pub(crate) fn moved(&self) -> usize
-        ensures { result ≡ count_moved self.now }
-    {
-        let mut count = 0;
-        for place in 0..self.len() {
-            if self.get(place) != 0 {
-                count += 1;
-            }
-        }
-        count
-    }
-
     /// The number at a place, which is below how many there are.
     pub(crate) fn get(&self, place: usize) -> i64
         requires { place < length self.now }
@@ -542,10 +639,7 @@ impl<T: PackedType<N>, const N: usize> Packed<T, N> {
         requires { InRange T.ty number }
         ensures { self.new ≡ put place number self.old }
     {
-        match place {
-            Some(place) if (place as usize) < self.len() => self.set(place as usize, number),
-            _ => {}
-        }
+        put_cell::<T, N>(place, &T::pack(number), self.cells.as_mut_slice());
     }
 
     /// Sets the numbers at the places to the values, in order, which are in the type's range. A
@@ -567,9 +661,7 @@ impl<T: PackedType<N>, const N: usize> Packed<T, N> {
         requires { length places.now ≡ length from.now }
         ensures { self.new ≡ write places.now from.now self.old }
     {
-        for (i, place) in places.iter().enumerate() {
-            self.put(*place, from.get(i));
-        }
+        copy_cells::<T, N>(places, from.cells.as_slice(), self.cells.as_mut_slice());
     }
 
     /// Sets the numbers at the places that a route gives to the first positions to the values, in
@@ -581,31 +673,25 @@ impl<T: PackedType<N>, const N: usize> Packed<T, N> {
         ensures { let places = map (R.goes_to route.now) (range_with_len 0 (length values.now)) in
             self.new ≡ write places values.now self.old }
     {
-        for (i, value) in values.iter().enumerate() {
-            self.put(route.place(i as u32), *value);
-        }
+        pack_by::<R, T, N>(route, values, self.cells.as_mut_slice());
     }
 
-    /// The number at a place, and 0 where there is none among these.
-    fn element_at(&self, place: Option<u32>) -> i64
-        ensures value { result ≡ element_at self.now place }
-        ensures in_range { InRange T.ty result }
+    /// The numbers at the places, with 0 where there is none among these.
+    pub(crate) fn gathered(
+        &self,
+        alloc: Global,
+        places: &[Option<u32>],
+    ) -> Result<Packed<T, N>, AllocError>
+        ensures { IfOk result (λ packed. packed ≡ read places.now self.now) }
     {
-        match place {
-            Some(place) if (place as usize) < self.len() => self.get(place as usize),
-            _ => 0,
-        }
-    }
-
-    /// Sets `into` to the numbers at the places, and to 0 where there is none among these.
-    pub(crate) fn read_at(&self, places: &[Option<u32>], into: &mut [i64])
-        requires { length into.old ≡ length places.now }
-        ensures value { into.new ≡ read places.now self.now }
-        ensures in_range { All (InRange T.ty) into.new }
-    {
-        for (i, place) in places.iter().enumerate() {
-            into[i] = self.element_at(*place);
-        }
+        wrapping_laws();
+        let mut cells = Vec::with_capacity(alloc, places.len())?;
+        cells.resize(places.len(), T::pack(0))?;
+        gather_cells::<T, N>(self.cells.as_slice(), places, cells.as_mut_slice());
+        Ok(Packed {
+            cells,
+            ty: PhantomData,
+        })
     }
 
     /// The bytes of each number in turn.

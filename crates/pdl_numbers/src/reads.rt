@@ -11,7 +11,9 @@ use crate::packed::{Packed, PackedType};
 use crate::placement::{Placement, place_after, place_in_order, place_of};
 use pdl_shape::{Triple, dims_list, incs_list, shape_laws};
 
-/// The numbers from a place on, each so far after the one before.
+/// The numbers from a place on, each so far after the one before. They are counted in 32 bits, by
+/// which the compiler knows that the places never come round.
+#[inline(always)]
 fn read_steps<T: PackedType<N>, const N: usize>(
     numbers: &Packed<T, N>,
     place: u32,
@@ -24,8 +26,30 @@ fn read_steps<T: PackedType<N>, const N: usize>(
     ensures { HasStepped numbers.now place inc (length into.old) into.new }
 {
     let cells = numbers.cells();
-    for (j, x) in into.iter_mut().enumerate() {
-        *x = T::unpack(&cells[place_after(place, inc, j)]);
+    let count = into.len() as u32;
+    for j in 0..count as usize {
+        into[j] = T::unpack(&cells[place_after(place, inc, j)]);
+    }
+}
+
+/// The numbers from a place on, each so far after the one before. Every second number and each
+/// backwards have the loop for themselves: of a step that it knows the compiler makes vectors.
+fn read_by_step<T: PackedType<N>, const N: usize>(
+    numbers: &Packed<T, N>,
+    place: u32,
+    inc: i32,
+    into: &mut [i64],
+)
+    requires small { length into.old ≤ extent_limit }
+    requires inside { LiesInside (length numbers.now) place inc (length into.old) }
+    ensures { HasStepped numbers.now place inc (length into.old) into.new }
+{
+    if inc == 2 {
+        read_steps(numbers, place, 2, into);
+    } else if inc == -1 {
+        read_steps(numbers, place, -1, into);
+    } else {
+        read_steps(numbers, place, inc, into);
     }
 }
 
@@ -141,7 +165,7 @@ pub(crate) fn read_run<T: PackedType<N>, const N: usize>(
     } else if into.len() == 3 {
         read_three(numbers, place, inc, into);
     } else {
-        read_steps(numbers, place, inc, into);
+        read_by_step(numbers, place, inc, into);
     }
 }
 
@@ -292,7 +316,7 @@ fn are_side_by_side(triple: &Triple, width: u32, rows: u32) -> bool
     ensures { IsTrue result → 4 ≤ rows }
 {
     let inc = inc_along(triple, 0);
-    4 <= rows && 16 <= width && inc != 0 && inc != 1
+    4 <= rows && 16 <= width && (inc < -1 || 2 < inc)
 }
 
 /// The first of the window's elements from a position on, and how many: whole rows, or what is left

@@ -1,5 +1,5 @@
 //! An operator on two windows of as many elements, in blocks.
-ghost use Rattle.std.specs.Prelude.{◌≡◌, ◌≢◌, ◌+◌, ◌++◌, ◌*◌, ◌<◌, ◌≤◌, pos, [], length, map, None, All, IsTrue, IfOk, OnOk};
+ghost use Rattle.std.specs.Prelude.{◌≡◌, ◌≢◌, ◌+◌, ◌++◌, ◌*◌, ◌<◌, ◌≤◌, pos, [], length, map, None, All, IsTrue, IfOk, IfSome, OnOk};
 ghost use Rattle.pdl_elem.specs.Blocks.{pairwise, zero_at};
 ghost use Rattle.pdl_elem.specs.Numbers.{wrapped};
 ghost use Rattle.pdl_elem.specs.Operators.{divides, value_of};
@@ -70,6 +70,7 @@ fn put_block(
         let ys = operands_from ty first count b.now.elems in
         let elems = made.old.elems ++ pairwise (value_of op ty) xs ys in
         IfOk result (λ found. found ≡ None → made.new ≡ record made.old { elems = elems }) }
+    ensures kept { IfOk result (λ found. IfSome found (λ place. made.new ≡ made.old)) }
     ensures length { length room.new ≡ 3 * count }
 {
     let (left, rest) = room.split_at_mut(count);

@@ -1,10 +1,9 @@
 //! The values of an assignment, part by part (PDL::Ops, PDL::Broadcasting).
-ghost use Rattle.std.specs.Prelude.{◌≡◌, ◌+◌, ◌<◌, ◌≤◌, ℤ, true, List, length, map, min, All, IfSome, Ok, is_ok};
+ghost use Rattle.std.specs.Prelude.{◌≡◌, ◌+◌, ◌≤◌, ℤ, true, List, length, map, min, All, Ok, is_ok};
 ghost use Rattle.pdl_elem.specs.Blocks.{zero_at};
 ghost use Rattle.pdl_elem.specs.Numbers.{wrapped};
 ghost use Rattle.pdl_elem.specs.Operators.{divides};
 ghost use Rattle.pdl_elem.specs.Types.{InRange};
-ghost use Rattle.pdl_elem.specs.declared.BinaryOp.TheVariants.{Div};
 ghost use Rattle.pdl_shape.specs.Broadcast.{BroadcastsTo};
 ghost use Rattle.pdl_shape.specs.Shape.{size_of};
 ghost use Rattle.pdl_ops.specs.declared.operands.TheConstants.{BLOCK};
@@ -14,7 +13,7 @@ ghost use Rattle.pdl_ops.specs.Values.{fits, new_values};
 use crate::operands::{BLOCK, read_operand, rewrap};
 use crate::values::fits;
 use pdl_buf::{Strided, strided_dims, strided_type};
-use pdl_elem::{BinaryOp, Ty, binary_all, binary_type, promote};
+use pdl_elem::{BinaryOp, Ty, binary_all, binary_type, first_refused, promote};
 use pdl_lexemes::AssignOp;
 use pdl_shape::{Dims, dims_list, elements_of, shape_laws};
 
@@ -45,19 +44,10 @@ fn divides(op: BinaryOp) -> bool
     matches!(op, BinaryOp::Div | BinaryOp::Rem)
 }
 
-/// The place of the first 0.
-fn first_zero(numbers: &[i64]) -> Option<usize>
-    ensures zero { result ≡ zero_at Div numbers.now }
-    ensures inside { IfSome result (λ place. place < length numbers.now) }
-{
-    numbers.iter().position(|y| *y == 0)
-}
-
-/// The position of the first divisor 0 among a window's elements, wrapped to the type, for an
-/// operator that divides. It is found block by block in a room.
+/// Where the operator divides, the position of the first divisor 0 among a window's elements,
+/// wrapped to the type. It is found block by block in a room.
 fn divisor_within(op: BinaryOp, ty: Ty, new: &Strided<'_>, room: &mut [i64]) -> Option<u32>
-    requires divides { divides op ≡ true }
-    requires room { min (size_of new.now.dims) BLOCK ≤ length room.old }
+    requires { min (size_of new.now.dims) BLOCK ≤ length room.old }
     ensures { result ≡ zero_at op (map (wrapped ty) new.now.elems) }
 {
     let count = elements_of(strided_dims(new)) as usize;
@@ -65,7 +55,7 @@ fn divisor_within(op: BinaryOp, ty: Ty, new: &Strided<'_>, room: &mut [i64]) -> 
     while done < count {
         let size = (count - done).min(BLOCK);
         read_operand(new, ty, done as u32, &mut room[..size]);
-        if let Some(place) = first_zero(&room[..size]) {
+        if let Some(place) = first_refused(op, &room[..size]) {
             return Some((done + place) as u32);
         }
         done += size;

@@ -1,3 +1,4 @@
+mod FlagLemmas
 mod PlacedGathered
 mod GatheredPlaces
 mod FilledPaths

@@ -1,3 +1,4 @@
 pub mod Filled
+pub mod Flags
 pub mod Gathered
 pub mod Outdated

@@ -16,14 +16,14 @@ use std::alloc::Global;
 use std::sync::ledger::Ledger;
 
 /// The root's places of a view that is its own base and has a fresh parent.
-fn find_places(table: &Table, alloc: Global, id: u64) -> Result<Vec<Option<u32>>, NoMemory>
+fn find_places(table: &Table, alloc: Global, id: u64) -> Result<Places, NoMemory>
     requires order { InOrder table.now }
     requires known { AreKnown table.now }
     requires live { has table.now id ≡ true }
     requires own { (row_at table.now id).base ≡ id }
     requires view { (row_at table.now id).root ≢ id }
     requires parent { ParentIsFresh table.now id }
-    ensures { IfOk result (λ v. v.items ≡ places_seen table.now id) }
+    ensures { IfOk result (λ places. places ≡ places_seen table.now id) }
 {
     row_laws();
     let node = table.node(id);
@@ -94,9 +94,10 @@ fn fill_first<L: Ledger>(
     let node = table.node(id);
     let root = table.node(node.root());
     let count = elements_of(&root.triple().dims);
-    let repeats = has_twice(alloc, &places, count)?;
-    let kept = gathered(alloc, root.kept(), &places, steps)?;
-    table.fill(alloc, id, kept, repeats, Some(Places::new(places)))
+    let listed = places.as_slice();
+    let repeats = has_twice(alloc, listed, count)?;
+    let kept = gathered(alloc, root.kept(), listed, steps)?;
+    table.fill(alloc, id, kept, repeats, Some(places))
 }
 
 /// Fills an outdated view over its fresh parent.

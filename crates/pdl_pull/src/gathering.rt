@@ -8,6 +8,7 @@ ghost use Rattle.pdl_nodes.specs.Families.{has_repeats, is_among};
 ghost use Rattle.pdl_nodes.specs.Placed.{placed_by};
 ghost use Rattle.pdl_pull.specs.Gathered.{own_at};
 
+use crate::bit_set::BitSet;
 use pdl_buf::NoMemory;
 use pdl_choice::Places;
 use pdl_nodes::{Layout, entry, placed};
@@ -53,14 +54,16 @@ fn has_twice_of_few(places: &[Option<u32>]) -> bool
     false
 }
 
-/// Whether comparing each pair of so many positions costs no more than a note for each element of
-/// the root: a note is some sixteen times as cheap as a pair, since notes are cleared in blocks.
+/// Whether comparing each pair of so many positions costs no more than a set with a bit for each
+/// element of the root: the pairs of a dozen cost less than to ask for memory, and a pair as much
+/// as to clear some 256 bits.
 fn are_few(positions: usize, count: u32) -> bool {
-    positions <= 256 && 16 * positions * positions <= count as usize
+    positions <= 12 || positions <= 90 && 128 * positions * positions <= count as usize
 }
 
 /// Whether two positions have the same place: a few by comparing them, none where the places rise,
-/// and others in one pass from the last position on, over a list as long as the root.
+/// and others in one pass from the last position on, over a set with a bit for each element of the
+/// root.
 pub fn has_twice(alloc: Global, places: &[Option<u32>], count: u32) -> Result<bool, NoMemory>
     requires { AllBelow count places.now }
     ensures { IfOk result (λ f. f ≡ has_repeats places.now) }
@@ -95,16 +98,15 @@ fn has_twice_of_many(alloc: Global, places: &[Option<u32>], count: u32) -> Resul
     requires { AllBelow count places.now }
     ensures { IfOk result (λ f. f ≡ has_repeats places.now) }
 {
-    let mut seen = vec![in alloc; false; count as usize]?;
+    let mut seen = BitSet::new(alloc, count)?;
     let mut position = places.len();
     while position > 0 {
         position -= 1;
         match places[position] {
             Some(at) => {
-                if seen[at as usize] {
+                if !seen.insert(at) {
                     return Ok(true);
                 }
-                seen[at as usize] = true;
             }
             None => {}
         }
@@ -162,7 +164,8 @@ fn picks_places(
     shown.is_identity()
 }
 
-/// The root's places of a view over an array that a triple shows over a base.
+/// The root's places of a view over an array that a triple shows over a base. Where they are those
+/// that the view picks, it is the same list.
 pub fn places_through(
     alloc: Global,
     layout: &Layout,
@@ -170,25 +173,24 @@ pub fn places_through(
     known: &Option<Places>,
     triple: &Triple,
     size: u32,
-) -> Result<Vec<Option<u32>>, NoMemory>
+) -> Result<Places, NoMemory>
     requires shown { size ≡ size_of triple.now.dims }
     requires within { (p : ℕ) → p < count → IsBelow size (own_at layout.now p) }
-    ensures { IfOk result (λ v. v.items ≡ map (λ p.
+    ensures { IfOk result (λ places. places ≡ map (λ p.
         option_and_then (entry (placed_by known.now triple.now)) (own_at layout.now p))
         (range_with_len 0 count)) }
 {
     let shown = Placement::of(triple);
-    let mut places = Vec::with_capacity(alloc, count as usize)?;
     if let Layout::Choice(choice) = layout {
         let own = choice.places.as_slice();
         if picks_places(own, count, known, &shown, size) {
-            places.extend_from_slice(own)?;
-            return Ok(places);
+            return choice.places.share();
         }
     }
+    let mut list = Vec::with_capacity(alloc, count as usize)?;
     for position in 0..count {
         let own = own_at(layout, position);
-        places.push(place_through(known, &shown, size, own))?;
+        list.push(place_through(known, &shown, size, own))?;
     }
-    Ok(places)
+    Places::new(list)
 }

@@ -2,6 +2,7 @@
 //! elements of the root, from the root on (PDL::Dataflow).
 #![tactic(auto)]
 
+mod bit_set;
 mod filling;
 mod gathering;
 mod refreshing;

@@ -1,17 +1,19 @@
 -- Elements that are read in blocks.
-use Rattle.std.proofs.Common.{◌≡◌, ℕ, ◌+◌, ◌-◌, ◌≤◌, ℤ, List, ◌++◌, length, take, drop, map, fold, All, arith, Option, Some, None, ap, ap₂, sym, subst, ◌∙◌, append_assoc, length-drop, take-append-drop}
+use Rattle.std.proofs.Common.{◌≡◌, ℕ, ◌+◌, ◌-◌, ◌≤◌, ℤ, List, ◌++◌, length, take, drop, fold, All, arith, Option, Some, None, ap, ap₂, sym, subst, ◌∙◌, append_assoc, length-drop, take-append-drop}
 use Rattle.std.specs.Prelude.{Bool, true, false, ◌&&◌, ◌||◌, position}
 use Rattle.std.specs.List.{list_all, list_any}
 use Rattle.std.specs.Ordering.{int_eq}
 use Rattle.std.specs.Option.{unwrap_or}
-use Rattle.std.proofs.lemmas.List.{drop-drop, length-take-le, map-append}
+use Rattle.std.proofs.lemmas.List.{drop-drop, length-take-le}
 use Rattle.std.proofs.lemmas.List.Elements.{All-append}
 use Rattle.std.proofs.lemmas.List.Folds.{list_all-append, list_any-append}
 use Rattle.std.proofs.lemmas.List.Sums.{fold-append}
 use Rattle.std.proofs.Math.Seq.{take-add}
 use Rattle.pdl_lemmas.specs.Lists.{position_none, position_after, position_before}
-use Rattle.pdl_reduce.specs.Folds.{at_prefixes, first_place}
-use Rattle.pdl_reduce.proofs.FoldRunning.{running, running_append, running_is}
+use Rattle.pdl_elem.specs.declared.Ty.{Ty}
+use Rattle.pdl_numbers.specs.Laws.{PrefixLaws}
+use Rattle.pdl_numbers.specs.Prefixes.{wrapped_prefixes}
+use Rattle.pdl_reduce.specs.Folds.{first_place}
 
 -- the elements before a block, and the block
 pub block_more : (xs : List ℤ) (first k n : ℕ) → take (k + n) (drop first xs) ≡ take k (drop first xs) ++ take n (drop (first + k) xs)
@@ -27,19 +29,17 @@ fold_next f a s r xs first k n e g =
 pub all_next : (P : ℤ → Type 0) (xs : List ℤ) (first k n : ℕ) → All P (take k (drop first xs)) → All P (take n (drop (first + k) xs)) → All P (take (k + n) (drop first xs))
 all_next P xs first k n h g = subst (All P) (sym (block_more xs first k n)) (All-append P (take k (drop first xs)) (take n (drop (first + k) xs)) h g)
 
--- what is made of the elements before a block, and of the block
-pub made_next : (f : ℤ → ℤ → ℤ) (w : ℤ → ℤ) (a s : ℤ) (xs old made next : List ℤ) (first k n : ℕ) → s ≡ fold f a (take k (drop first xs))
-    → made ≡ old ++ map w (running f a (take k (drop first xs)))
-    → next ≡ made ++ map w (at_prefixes (λ ys. fold f s ys) (take n (drop (first + k) xs)))
-    → next ≡ old ++ map w (running f a (take (k + n) (drop first xs)))
-made_next f w a s xs old made next first k n e m g =
+-- what the elements up to each place before a block come to, and of the block
+pub made_next : PrefixLaws → (t : Ty) (f : ℤ → ℤ → ℤ) (a s : ℤ) (xs old made next : List ℤ) (first k n : ℕ) → s ≡ fold f a (take k (drop first xs))
+    → made ≡ old ++ wrapped_prefixes t f a (take k (drop first xs))
+    → next ≡ made ++ wrapped_prefixes t f s (take n (drop (first + k) xs))
+    → next ≡ old ++ wrapped_prefixes t f a (take (k + n) (drop first xs))
+made_next laws t f a s xs old made next first k n e m g =
     let us : List ℤ = take k (drop first xs) in
     let vs : List ℤ = take n (drop (first + k) xs) in
-    let block : map w (at_prefixes (λ ys. fold f s ys) vs) ≡ map w (running f (fold f a us) vs) =
-    ap (map w) (sym (running_is f s vs) ∙ ap (λ z. running f z vs) e) in
-    g ∙ ap₂ (λ (ps qs : List ℤ). ps ++ qs) m block
-    ∙ append_assoc old (map w (running f a us)) (map w (running f (fold f a us) vs))
-    ∙ ap (λ zs. old ++ zs) (sym (map-append w (running f a us) (running f (fold f a us) vs)) ∙ ap (map w) (sym (running_append f a us vs) ∙ ap (running f a) (sym (block_more xs first k n))))
+    g ∙ ap₂ (λ (ps qs : List ℤ). ps ++ qs) m (ap (λ z. wrapped_prefixes t f z vs) e)
+    ∙ append_assoc old (wrapped_prefixes t f a us) (wrapped_prefixes t f (fold f a us) vs)
+    ∙ ap (λ zs. old ++ zs) (sym (laws.behind t f a us vs) ∙ ap (wrapped_prefixes t f a) (sym (block_more xs first k n)))
 
 -- ---- the first place of a number
 

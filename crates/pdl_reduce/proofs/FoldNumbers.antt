@@ -1,18 +1,17 @@
 -- What folds in machine words come to.
-use Rattle.std.proofs.Common.{◌≡◌, ℕ, ◌+◌, ◌<◌, ◌≤◌, ℤ, pos, ◌+ℤ◌, ◌*ℤ◌, ◌≤ℤ◌, List, [], ◌∷◌, length, take, drop, map, get_or, fold, All, arith, refl, ap, ap₂, sym, subst, ◌∙◌, Result, Ok, Err}
-use Rattle.std.specs.Prelude.{OnOk, slice_index_or, Bool, true, false, if◌then◌else◌, int_lt}
+use Rattle.std.proofs.Common.{◌≡◌, ℕ, ◌<◌, ◌≤◌, ℤ, pos, ◌+ℤ◌, ◌*ℤ◌, ◌≤ℤ◌, List, [], ◌∷◌, length, take, drop, map, get_or, fold, All, arith, refl, ap, ap₂, sym, ◌∙◌, Result, Ok, Err}
+use Rattle.std.specs.Prelude.{OnOk, Bool, true, false, if◌then◌else◌, int_lt}
 use Rattle.std.specs.Int.{int_max, int_min, int_wrap, w64}
-use Rattle.std.specs.List.{range_with_len}
 use Rattle.std.specs.declared.alloc.AllocError.{AllocError}
 use Rattle.std.proofs.lemmas.Int.{int_max_is, int_min_is, int_wrap-add_left, int_wrap-mul_left, int_wrap_fits, ints, SFits-int_wrap}
 use Rattle.std.proofs.lemmas.List.{get_or-drop, get_or-take}
-use Rattle.std.proofs.lemmas.List.Elements.{All-head, All-map, All-tail}
+use Rattle.std.proofs.lemmas.List.Elements.{All-head, All-tail}
 use Rattle.pdl_elem.specs.declared.Ty.{Ty}
 use Rattle.pdl_elem.specs.declared.Ty.TheVariants.{Long, Longlong}
 use Rattle.pdl_elem.specs.Laws.{WrappingLaws}
 use Rattle.pdl_elem.specs.Numbers.{wrapped}
 use Rattle.pdl_elem.specs.Types.{InRange, highest, lowest}
-use Rattle.pdl_reduce.specs.Folds.{total, product, greatest, least, at_prefixes}
+use Rattle.pdl_reduce.specs.Folds.{total, product, greatest, least}
 
 -- ---- a sum or a product wraps on the way or in the end
 
@@ -42,22 +41,6 @@ wrapped_sum laws t xs = sym (laws.late t (fold adding (pos 0) xs)) ∙ ap (wrapp
 
 pub wrapped_product : WrappingLaws → (t : Ty) (xs : List ℤ) → wrapped t (fold multiplying (pos 1) xs) ≡ wrapped t (product xs)
 wrapped_product laws t xs = sym (laws.late t (fold multiplying (pos 1) xs)) ∙ ap (wrapped t) (product_late (pos 1) (pos 1) xs refl) ∙ laws.late t (product xs)
-
--- ---- at each place
-
-map_agree : {X : Type 0} (f g : X → ℤ) (xs : List X) → ((x : X) → f x ≡ g x) → map f xs ≡ map g xs
-map_agree f g [] e = refl
-map_agree f g (x ∷ xs) e = ap₂ (λ y ys. y ∷ ys) (e x) (map_agree f g xs e)
-
-map_twice : (w : ℤ → ℤ) (f : ℕ → ℤ) (ns : List ℕ) → map w (map f ns) ≡ map (λ n. w (f n)) ns
-map_twice w f [] = refl
-map_twice w f (n ∷ ns) = ap (λ ys. w (f n) ∷ ys) (map_twice w f ns)
-
-pub prefixes_wrapped : (t : Ty) (f g : List ℤ → ℤ) (xs : List ℤ) → ((ys : List ℤ) → wrapped t (f ys) ≡ wrapped t (g ys))
-    → map (wrapped t) (at_prefixes f xs) ≡ at_prefixes (λ ys. wrapped t (g ys)) xs
-prefixes_wrapped t f g xs e =
-    map_twice (wrapped t) (λ i. f (take (i + 1) xs)) (range_with_len 0 (length xs))
-    ∙ map_agree _ (λ i. wrapped t (g (take (i + 1) xs))) (range_with_len 0 (length xs)) (λ i. e (take (i + 1) xs))
 
 -- ---- extremes
 
@@ -90,10 +73,6 @@ pub wrapped_same : WrappingLaws → (ty : Ty) (xs : List ℤ) → All (InRange t
 wrapped_same laws ty [] all = refl
 wrapped_same laws ty (x ∷ xs) all =
     ap₂ (λ (z : ℤ) (zs : List ℤ). z ∷ zs) (sym (laws.same ty x (All-head (InRange ty) x xs all))) (wrapped_same laws ty xs (All-tail (InRange ty) x xs all))
-
--- wrapped numbers are numbers of the type
-pub wrapped_in : WrappingLaws → (ty : Ty) (xs zs : List ℤ) → zs ≡ map (wrapped ty) xs → All (InRange ty) zs
-wrapped_in laws ty xs zs e = subst (All (InRange ty)) (sym e) (All-map (InRange ty) (wrapped ty) xs (λ k d below. laws.in_range ty (slice_index_or xs k d)))
 
 -- the greatest may be looked for from the least machine number on, and the least from the greatest one on
 pub greatest_from : WrappingLaws → (ty : Ty) (xs : List ℤ) → 0 < length xs → All (InRange ty) xs → wrapped ty (fold int_max (lowest Longlong) xs) ≡ greatest xs

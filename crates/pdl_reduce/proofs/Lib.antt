@@ -1,5 +1,5 @@
 pub mod Examples
-pub mod FoldRunning
+pub mod FoldPrefixes
 pub mod FoldExtremes
 pub mod FoldBlocks
 pub mod FoldNumbers

@@ -11,8 +11,7 @@ use Rattle.pdl_reduce.specs.declared.Reduction.TheVariants.{Sumover, Prodover, M
 use Rattle.pdl_reduce.specs.Reductions.{lists, reduced_dims, reduced_row, sum_type, width}
 use Rattle.pdl_elem.specs.Numbers.{wrapped}
 use Rattle.pdl_reduce.specs.Folds.{total, product}
-use Rattle.pdl_reduce.proofs.FoldRunning.{prefixes_length}
-use Rattle.pdl_reduce.proofs.FoldRunning.{prefixes_length}
+use Rattle.pdl_reduce.proofs.FoldPrefixes.{prefixes_length}
 
 pub size_split : (ds : List ℕ) → size_of (drop 1 ds) * width ds ≡ size_of ds
 size_split [] = refl

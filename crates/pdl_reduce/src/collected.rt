@@ -1,31 +1,56 @@
 //! Results that are collected: however few are put at once, they are packed in blocks.
-ghost use Rattle.std.specs.Prelude.{◌≡◌, ◌++◌, [], All, IfOk, OnOk};
+ghost use Rattle.std.specs.Prelude.{◌≡◌, ◌++◌, [], All, fold, IfOk, OnOk, OnErr};
 ghost use Rattle.pdl_elem.specs.Types.{InRange};
+ghost use Rattle.pdl_numbers.specs.Numbers.{elements_in};
+ghost use Rattle.pdl_numbers.specs.Prefixes.{wrapped_prefixes};
 
 use crate::windows::BLOCK;
 use pdl_buf::Packing;
 use pdl_elem::Ty;
+use pdl_numbers::{Folding, Numbers};
 use std::alloc::{AllocError, Global};
 use std::marker::Model;
+
+/// Packs the numbers of a block, which are in the type's range, after the others, and empties it.
+/// Out of memory both stay.
+fn pack_block(packed: &mut Numbers, block: &mut Vec<i64>) -> Result<(), AllocError>
+    requires { All (InRange (elements_in packed.old).ty) block.old.items }
+    ensures ok { let old = elements_in packed.old in
+        let elems = old.elems ++ block.old.items in
+        OnOk result (elements_in packed.new ≡ record old { elems = elems }) }
+    ensures emptied { OnOk result (block.new.items ≡ []) }
+    ensures err { OnErr result (elements_in packed.new ≡ elements_in packed.old) }
+    ensures kept { OnErr result (block.new.items ≡ block.old.items) }
+{
+    if block.is_empty() {
+        return Ok(());
+    }
+    packed.extend(block)?;
+    block.clear();
+    Ok(())
+}
 
 /// A type and numbers in its range, which are put a few at a time, seen as a packing of them all.
 #[derive(Drop)]
 pub(crate) struct Collected {
-    packed: Packing,
+    packed: Numbers,
     /// Those after the packed ones, less than a block.
     block: Vec<i64>,
 }
 
 impl Model for Collected {
     ghost use Rattle.std.specs.Prelude.{◌++◌, All};
+    ghost use Rattle.pdl_numbers.specs.Numbers.{elements_in};
     ghost use Rattle.pdl_numbers.specs.Typed.{TypedElements};
     ghost use Rattle.pdl_elem.specs.Types.{InRange};
 
     ghost Value = { TypedElements };
 
-    ghost view = { λ c. record { ty = c.packed.ty; elems = c.packed.elems ++ c.block.items } };
+    ghost view = { λ c.
+        let packed = elements_in c.packed in
+        record packed { elems = packed.elems ++ c.block.items } };
 
-    ghost invariant = { λ c. All (InRange c.packed.ty) c.block.items };
+    ghost invariant = { λ c. All (InRange (elements_in c.packed).ty) c.block.items };
 }
 
 impl Collected {
@@ -34,7 +59,7 @@ impl Collected {
         ensures { IfOk result (λ c. c ≡ record { ty = ty; elems = [] }) }
     {
         Ok(Collected {
-            packed: Packing::new(alloc, ty, count)?,
+            packed: Numbers::with_room(alloc, ty, count)?,
             block: Vec::with_capacity(alloc, BLOCK.min(count))?,
         })
     }
@@ -48,20 +73,37 @@ impl Collected {
         if self.block.len() + numbers.len() < BLOCK {
             return self.block.extend_from_slice(numbers);
         }
-        self.packed.extend(&self.block)?;
-        self.block.clear();
+        pack_block(&mut self.packed, &mut self.block)?;
         if numbers.len() < BLOCK {
             return self.block.extend_from_slice(numbers);
         }
         self.packed.extend(numbers)
     }
 
+    /// Puts what numbers come to up to each of them, from a start on, wrapped to the type, after
+    /// the others. They are packed as they are found, in no block. It answers what all come to.
+    pub(crate) fn extend_prefixes<F: Folding>(
+        &mut self,
+        start: i64,
+        numbers: &[i64],
+    ) -> Result<i64, AllocError>
+        ensures value { IfOk result (λ end. end ≡ fold F.taken start numbers.now) }
+        ensures ok { let new = wrapped_prefixes self.old.ty F.taken start numbers.now in
+            OnOk result (self.new ≡ record self.old { elems = self.old.elems ++ new }) }
+    {
+        pack_block(&mut self.packed, &mut self.block)?;
+        self.packed.extend_prefixes::<F>(start, numbers)
+    }
+
     /// The packing of all numbers, those of the last block too.
     pub(crate) fn packed(self) -> Result<Packing, AllocError>
         ensures { IfOk result (λ packing. packing ≡ self) }
     {
-        let Collected { mut packed, block } = self;
-        packed.extend(&block)?;
-        Ok(packed)
+        let Collected {
+            mut packed,
+            mut block,
+        } = self;
+        pack_block(&mut packed, &mut block)?;
+        Ok(Packing::of(packed))
     }
 }

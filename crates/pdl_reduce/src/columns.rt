@@ -8,10 +8,10 @@ ghost use Rattle.pdl_reduce.specs.Across.{come_to};
 ghost use Rattle.pdl_reduce.specs.Reductions.{nth_list};
 
 use crate::collected::Collected;
-use crate::folds::Folding;
 use crate::matrices::size_at;
 use pdl_buf::{Strided, strided_dims, strided_read_across};
 use pdl_elem::{Ty, wrap_all};
+use pdl_numbers::Folding;
 use pdl_shape::dims_list;
 use std::alloc::AllocError;
 

@@ -10,7 +10,7 @@ ghost use Rattle.pdl_reduce.specs.Reductions.{answer, flat, is_extreme, lists, r
 
 use crate::collected::Collected;
 use crate::columns::add_lists;
-use crate::folds::{Adding, Falling, Folding, Multiplying, Rising};
+use crate::folds::{Adding, Falling, Multiplying, Rising};
 use crate::rows::{add_row, sum_type};
 use crate::windows::{BLOCK, all_set, any_set};
 use crate::{ReduceFault, Reduction, Whole};
@@ -19,6 +19,7 @@ use pdl_buf::{
     strided_type,
 };
 use pdl_elem::{Ty, wrapping_laws};
+use pdl_numbers::Folding;
 use pdl_shape::{
     Dims, copy_dims, dims_list, dims_within, elements_of, shape_laws, size_along, sizes_after,
 };

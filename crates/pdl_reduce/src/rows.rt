@@ -9,10 +9,11 @@ ghost use Rattle.pdl_reduce.specs.Reductions.{is_extreme, reduced_row, reduced_t
 
 use crate::Reduction;
 use crate::collected::Collected;
-use crate::folds::{Adding, Falling, Folding, Multiplying, Rising};
+use crate::folds::{Adding, Falling, Multiplying, Rising};
 use crate::windows::{find_in_window, fold_changes, fold_window, run_window};
 use pdl_buf::{Strided, strided_get, strided_sum, strided_type};
 use pdl_elem::{Ty, promote, wrap, wrapping_laws};
+use pdl_numbers::{Folding, prefix_laws};
 use std::alloc::AllocError;
 
 /// The type of a sum or a product.
@@ -157,7 +158,7 @@ pub(crate) fn add_row(
     ensures typed { OnOk result (made.new.ty ≡ made.old.ty) }
 {
     wrapping_laws();
-    let ty = sum_type(strided_type(a));
+    prefix_laws();
     match kind {
         Reduction::Sumover => push(made, sum_of(a, first, count, block)),
         Reduction::Prodover => push(made, product_of(a, first, count, block)),
@@ -165,7 +166,7 @@ pub(crate) fn add_row(
         Reduction::Minimum => push(made, least_of(a, first, count, block)),
         Reduction::MaximumInd => push(made, greatest_place(a, first, count, block)),
         Reduction::MinimumInd => push(made, least_place(a, first, count, block)),
-        Reduction::Cumusumover => run_window::<Adding>(a, ty, first, count, 0, block, made),
-        Reduction::Cumuprodover => run_window::<Multiplying>(a, ty, first, count, 1, block, made),
+        Reduction::Cumusumover => run_window::<Adding>(a, first, count, 0, block, made),
+        Reduction::Cumuprodover => run_window::<Multiplying>(a, first, count, 1, block, made),
     }
 }

@@ -1,17 +1,17 @@
 //! Folds of a window's elements, read in blocks.
-ghost use Rattle.std.specs.Prelude.{◌≡◌, ◌≢◌, ◌<◌, ◌≤◌, ◌+◌, ◌++◌, length, fold, map, All, take, drop, position, IfOk, OnOk};
+ghost use Rattle.std.specs.Prelude.{◌≡◌, ◌≢◌, ◌<◌, ◌≤◌, ◌+◌, ◌++◌, length, fold, All, take, drop, position, IfOk, OnOk};
 ghost use Rattle.std.specs.List.{list_all, list_any};
 ghost use Rattle.std.specs.Ordering.{int_eq};
-ghost use Rattle.pdl_elem.specs.Numbers.{wrapped};
 ghost use Rattle.pdl_elem.specs.Types.{InRange};
 ghost use Rattle.pdl_shape.specs.Shape.{extent_limit};
-ghost use Rattle.pdl_reduce.specs.Folds.{at_prefixes, first_place};
+ghost use Rattle.pdl_numbers.specs.Prefixes.{wrapped_prefixes};
+ghost use Rattle.pdl_reduce.specs.Folds.{first_place};
 ghost use Rattle.pdl_reduce.specs.Reductions.{is_set};
 
 use crate::collected::Collected;
-use crate::folds::{Folding, fold_block, run_wrapped};
+use crate::folds::fold_block;
 use pdl_buf::{Strided, strided_read};
-use pdl_elem::Ty;
+use pdl_numbers::{Folding, prefix_laws};
 use std::alloc::AllocError;
 
 /// At most so many elements are worked on at once, which stay in the cache.
@@ -131,35 +131,31 @@ pub(crate) fn find_in_window(
 }
 
 /// Puts what the window's elements from a position on, as many as the part has room for, come to
-/// up to each of them, after those before them, wrapped to the type. It answers what all come to.
+/// up to each of them, after those before them, wrapped to the type of what is made. It answers
+/// what all come to.
 fn run_part<F: Folding>(
     a: &Strided<'_>,
-    ty: Ty,
     first: u32,
     start: i64,
     part: &mut [i64],
     made: &mut Collected,
 ) -> Result<i64, AllocError>
-    requires within { first + length part.old ≤ length a.now.elems }
-    requires typed { made.old.ty ≡ ty }
+    requires { first + length part.old ≤ length a.now.elems }
     ensures value { let xs = take (length part.old) (drop first a.now.elems) in
         IfOk result (λ end. end ≡ fold F.taken start xs) }
     ensures prefixes { let xs = take (length part.old) (drop first a.now.elems) in
-        let new = map (wrapped ty) (at_prefixes (λ ys. fold F.taken start ys) xs) in
+        let new = wrapped_prefixes made.old.ty F.taken start xs in
         OnOk result (made.new.elems ≡ made.old.elems ++ new) }
     ensures typed { OnOk result (made.new.ty ≡ made.old.ty) }
 {
     strided_read(a, first, part);
-    let end = run_wrapped::<F>(ty, start, part);
-    made.extend(part)?;
-    Ok(end)
+    made.extend_prefixes::<F>(start, part)
 }
 
-/// Puts what the elements up to each place come to, wrapped to the type: those of so many elements
-/// of the window from a position on.
+/// Puts what the elements up to each place come to, wrapped to the type of what is made: those of
+/// so many elements of the window from a position on.
 pub(crate) fn run_window<F: Folding>(
     a: &Strided<'_>,
-    ty: Ty,
     first: u32,
     count: u32,
     start: i64,
@@ -169,19 +165,19 @@ pub(crate) fn run_window<F: Folding>(
     requires within { first + count ≤ length a.now.elems }
     requires small { length a.now.elems ≤ extent_limit }
     requires room { 0 < count → 0 < length block.old }
-    requires typed { made.old.ty ≡ ty }
     ensures value { let xs = take count (drop first a.now.elems) in
-        let new = map (wrapped ty) (at_prefixes (λ ys. fold F.taken start ys) xs) in
+        let new = wrapped_prefixes made.old.ty F.taken start xs in
         OnOk result (made.new.elems ≡ made.old.elems ++ new) }
     ensures typed { OnOk result (made.new.ty ≡ made.old.ty) }
 {
+    prefix_laws();
     let count = count as usize;
     let mut so_far = start;
     let mut done = 0;
     while done < count {
         let run = block.len().min(count - done);
         let position = first + done as u32;
-        so_far = run_part::<F>(a, ty, position, so_far, &mut block[..run], made)?;
+        so_far = run_part::<F>(a, position, so_far, &mut block[..run], made)?;
         done += run;
     }
     Ok(())

@@ -1,6 +1,6 @@
 -- The faults of the crates below as those of a statement: what a fault names has its name in the
 -- machine, and one that names nothing is `NoMemory`.
-use Rattle.std.specs.Prelude.{Option, Some, None, option_map}
+use Rattle.std.specs.Prelude.{Option, Some, None, Result, Ok, Err, option_map}
 use Rattle.pdl_nodes.specs.declared.faults.ViewFault.{ViewFault}
 use Rattle.pdl_nodes.specs.declared.faults.ViewFault.TheVariants as view
 use Rattle.pdl_nodes.specs.declared.relaid.RelayFault.{RelayFault}
@@ -49,6 +49,11 @@ of_reshape relay.NoMemory = NoMemory
 -- why an operator has no values
 abbrev pub of_operator : OpFault → ScopeFault
 of_operator fault = scope_fault (option_map operator_fault (operator.refusal_named fault))
+
+-- what an operator answers, with such a fault in place of its own
+abbrev pub operator_named : {A : Type 0} → Result A OpFault → Result A ScopeFault
+operator_named (Ok x) = Ok x
+operator_named (Err fault) = Err (of_operator fault)
 
 -- why a reduction or a product of two arrays has no result
 abbrev pub of_reduce : ReduceFault → ScopeFault

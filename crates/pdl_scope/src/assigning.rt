@@ -25,6 +25,7 @@ ghost use Rattle.pdl_scope.specs.Scope.{engine_of, arrays_of, OnlyReads};
 use crate::fault::ScopeFault;
 use crate::flows::KeptFlow;
 use crate::following::{Change, Values, assign_all, is_followed, plan_flows};
+use crate::operating::operator_named;
 use crate::reading::ready_two;
 use crate::scope::Scope;
 use crate::watching::{foreseen, lookups, reads_views};
@@ -373,6 +374,7 @@ fn planned<L: Ledger, M: Ledger>(
 
 /// The values that an assignment writes, if both arrays can be lent already: then each of them is
 /// looked up once.
+#[inline(always)]
 fn written_at_once(
     alloc: Global,
     engine: &Engine,
@@ -392,10 +394,7 @@ fn written_at_once(
 {
     let into = engine.try_lend(target)?;
     let from = engine.try_lend(value)?;
-    match values_for(alloc, sign, &into, &from, keeping) {
-        Ok(values) => Some(Ok(values)),
-        Err(fault) => Some(Err(ScopeFault::from(fault))),
-    }
+    Some(operator_named(values_for(alloc, sign, &into, &from, keeping)))
 }
 
 /// The values that an assignment writes, after which its target can be lent.
@@ -453,7 +452,8 @@ fn written_when_ready<L: Ledger>(
         steps.new ≤ steps.old + (read_steps e target + read_steps e value) }
 {
     ready_two(engine, target, value, steps)?;
-    let (into, from) = (engine.lend(target), engine.lend(value));
-    let values = values_for(alloc, sign, &into, &from, keeping)?;
-    Ok(values)
+    match written_at_once(alloc, engine, sign, target, value, keeping) {
+        Some(found) => found,
+        None => unreachable!(),
+    }
 }

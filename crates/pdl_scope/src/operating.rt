@@ -12,6 +12,7 @@ ghost use Rattle.pdl_machine.specs.Outcome.{new_root};
 ghost use Rattle.pdl_machine.specs.Then.{and_then};
 ghost use Rattle.pdl_scope.specs.Answers.{Answers, Evaluates};
 ghost use Rattle.pdl_scope.specs.Costs.{make_steps};
+ghost use Rattle.pdl_scope.specs.Faults.{operator_named};
 ghost use Rattle.pdl_scope.specs.Scope.{engine_of, Grows, arrays_of};
 
 use crate::fault::ScopeFault;
@@ -20,7 +21,7 @@ use crate::scope::Scope;
 use pdl_buf::{Made, Steps};
 use pdl_elem::{BinaryOp, UnaryOp};
 use pdl_engine::{ArrayId, Engine};
-use pdl_ops::{elementwise, unary_each};
+use pdl_ops::{OpFault, elementwise, unary_each};
 use std::alloc::Global;
 use std::sync::ledger::Ledger;
 
@@ -91,7 +92,15 @@ fn operated(
         Answers (binary_each op (array_in a left) (array_in a right)) result }
     ensures made { IfOk result (λ m. IsMade m.ty m.dims m.elems) }
 {
-    match elementwise(alloc, op, &engine.lend(left), &engine.lend(right)) {
+    operator_named(elementwise(alloc, op, &engine.lend(left), &engine.lend(right)))
+}
+
+/// What an operator gave, with its refusal by the name of a script's fault.
+#[inline(always)]
+pub(crate) fn operator_named<T>(found: Result<T, OpFault>) -> Result<T, ScopeFault>
+    ensures { result ≡ operator_named found }
+{
+    match found {
         Ok(made) => Ok(made),
         Err(fault) => Err(ScopeFault::from(fault)),
     }

@@ -1,12 +1,11 @@
 -- One block more is written.
-use Rattle.std.proofs.Common.{rules, ◌≡◌, ◌+◌, ◌≤◌, ℕ, ℤ, List, ◌++◌, All, length, length-append, length-drop, take, drop, true, refl, sym, ◌∙◌, ap, subst, arith}
+use Rattle.std.proofs.Common.{◌≡◌, ◌+◌, ◌≤◌, ℕ, ℤ, List, ◌++◌, All, length, length-append, length-drop, take, drop, refl, sym, ◌∙◌, ap, subst, arith}
 use Rattle.std.proofs.lemmas.List.{length-replicate, length-take-le}
 use Rattle.pdl_elem.specs.declared.Ty.{Ty}
 use Rattle.pdl_elem.specs.Types.{InRange}
 use Rattle.pdl_shape.specs.Shape.{size_of}
 use Rattle.pdl_lemmas.specs.Lists.{take_written}
-use Rattle.pdl_world.specs.World.{World, dims_in, look}
-use Rattle.pdl_engine.specs.State.{is_fresh}
+use Rattle.pdl_world.specs.World.{World, look}
 use Rattle.pdl_assign.proofs.BlockSteps.{Laws, dims_stay, lent_again, live_stays, root_stays, steady_still, ty_stays, written_all, written_more}
 use Rattle.pdl_assign.proofs.blocks.write_shown.Goals as goal
 

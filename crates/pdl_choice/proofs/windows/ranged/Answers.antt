@@ -61,7 +61,7 @@ returns-clause-places c =
     let dims : windowed_dims c.args.parent.now c.args.ind_dims.now windows ≡ c.in-Ok-windowed.dims =
     ap (λ (ds : List ℕ). ds ++ inner_dims c.args.parent.now windows) (sym c.corner_dims-count.ensures.outer)
     ∙ checked_dims-ok (c.corner_dims-count.result.1.now ++ inner_dims c.args.parent.now windows) c.in-Ok-windowed.dims c.in-Ok-windowed.ensures.dims in
-    c.new-places.ensures ∙ c.in_ok-places.ensures.places
+    c.in_ok-places.ensures ∙ c.in_ok-list.ensures.places
     ∙ window_places_are c.shape_laws.ensures.positions c.args.edge c.args.parent.now c.args.ind_dims.now c.args.ind.now c.args.sizes.now windows c.count_of-corners.result c.elements_of-count.result
     (c.as_slice-windows.ensures.value ∙ c.in-Ok.ensures.windows ∙ ap (λ (n : ℕ). window_sizes n c.args.sizes.now) count)
     len corners

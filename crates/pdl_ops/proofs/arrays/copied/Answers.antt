@@ -1,19 +1,12 @@
-use Rattle.std.proofs.Common.{◌≡◌, ◌∙◌, ℤ, suc, List, [], ◌∷◌, All, map, refl, ap, ap₂, arith}
+use Rattle.std.proofs.Common.{◌≡◌, ◌∙◌, ℤ, List, ap}
 use Rattle.std.proofs.lemmas.Result.{IfOk-weaker}
 use Rattle.pdl_elem.specs.declared.Ty.{Ty}
-use Rattle.pdl_elem.specs.Laws.{WrappingLaws}
-use Rattle.pdl_elem.specs.Numbers.{wrapped}
-use Rattle.pdl_elem.specs.Types.{InRange}
 use Rattle.pdl_buf.specs.Made.{array_of}
 use Rattle.pdl_buf.specs.Window.{Window}
 use Rattle.pdl_buf.specs.declared.made.Made.{Made}
 use Rattle.pdl_ops.specs.Elementwise.{converted}
+use Rattle.pdl_ops.proofs.BlockLists.{wrapped_stay}
 use Rattle.pdl_ops.proofs.arrays.copied.Goals as goal
-
--- numbers of a type are wrapped to themselves
-wrapped_stay : WrappingLaws → (t : Ty) (xs : List ℤ) → All (InRange t) xs → map (wrapped t) xs ≡ xs
-wrapped_stay laws t [] h = refl
-wrapped_stay laws t (x ∷ xs) h = ap₂ (λ (y : ℤ) (ys : List ℤ). y ∷ ys) (laws.same t x (h 0 x (omega arith))) (wrapped_stay laws t xs (λ k d below. h (suc k) d (omega arith)))
 
 pub returns-clause-value : goal.returns-clause-value
 returns-clause-value c =

@@ -1,12 +1,9 @@
 -- The first divisor 0 is the first one of the first block that has one.
-use Rattle.std.proofs.Common.{◌≡◌, ℕ, ◌+◌, ◌≤◌, ℤ, List, length, take, drop, map, None, Some, sym, ◌∙◌, ap, arith, take-append-drop, length-append, true}
-use Rattle.std.specs.Prelude.{if◌then◌else◌}
+use Rattle.std.proofs.Common.{◌≡◌, ℕ, ◌+◌, ◌≤◌, ℤ, List, length, take, drop, map, None, Some, sym, ◌∙◌, ap, arith, take-append-drop, length-append}
 use Rattle.std.proofs.lemmas.List.{length-map, length-take-le, length-drop}
 use Rattle.std.proofs.Math.Seq.{take-add}
 use Rattle.pdl_elem.specs.declared.BinaryOp.{BinaryOp}
-use Rattle.pdl_elem.specs.declared.BinaryOp.TheVariants.{Div}
 use Rattle.pdl_elem.specs.Blocks.{zero_at}
-use Rattle.pdl_elem.specs.Operators.{divides}
 use Rattle.pdl_elem.specs.Numbers.{wrapped}
 use Rattle.pdl_shape.specs.Shape.{size_of}
 use Rattle.pdl_lemmas.specs.Lists.{take_written}
@@ -26,10 +23,6 @@ found op ys vs k n p l e h z =
     ap (zero_at op) (sym (take-append-drop (k + n) ys)) ∙ zero_before op (take (k + n) ys) (drop (k + n) ys) (length (take k ys) + p) front
     ∙ ap (λ (q : ℕ). Some (q + p)) (length-take-le k ys l)
 
--- an operator that divides asks for 0
-at_div : (op : BinaryOp) → divides op ≡ true → (xs : List ℤ) → zero_at op xs ≡ zero_at Div xs
-at_div op h xs = ap (λ b. if b then zero_at Div xs else None) h
-
 pub returns-in-Some : goal.returns-in-Some
 returns-in-Some c =
     let n : ℕ = c.min-size.result in
@@ -42,8 +35,7 @@ returns-in-Some c =
     let left : k + n ≤ length (map f es) = omega (arith, m, c.min-size.ensures, c.loop-done-test.true, c.elements_of-count.ensures.count, c.strided_dims.ensures.count, ap size_of c.strided_dims.ensures.dims) in
     let long : length c.read_operand.new.into ≡ n = ap length v ∙ length-take-le n (drop k (map f es)) (omega (arith, left, length-drop k (map f es))) in
     let z : zero_at c.args.op c.read_operand.new.into ≡ Some c.in-Some.place =
-    at_div c.args.op c.requires.divides c.read_operand.new.into
-    ∙ ap (zero_at Div) (sym (take_written n c.read_operand.new.into (drop n c.loop-done.room) long)) ∙ sym c.in-Some.ensures.zero in
+    ap (zero_at c.args.op) (sym (take_written n c.read_operand.new.into (drop n c.loop-done.room) long)) ∙ sym c.in-Some.ensures.place in
     sym (found c.args.op (map f es) c.read_operand.new.into k n c.in-Some.place (omega (arith, left)) v c.loop-done.invariant.none z)
 
 pub loop-done-preserved : goal.loop-done-preserved
@@ -58,8 +50,7 @@ loop-done-preserved c =
     let left : k + n ≤ length (map f es) = omega (arith, m, c.min-size.ensures, c.loop-done-test.true, c.elements_of-count.ensures.count, c.strided_dims.ensures.count, ap size_of c.strided_dims.ensures.dims) in
     let long : length c.read_operand.new.into ≡ n = ap length v ∙ length-take-le n (drop k (map f es)) (omega (arith, left, length-drop k (map f es))) in
     let z : zero_at c.args.op c.read_operand.new.into ≡ None =
-    at_div c.args.op c.requires.divides c.read_operand.new.into
-    ∙ ap (zero_at Div) (sym (take_written n c.read_operand.new.into (drop n c.loop-done.room) long)) ∙ sym c.in_default.ensures.zero in
+    ap (zero_at c.args.op) (sym (take_written n c.read_operand.new.into (drop n c.loop-done.room) long)) ∙ sym c.in_default.ensures.place in
     record {
       inside = omega (arith, c.min-size.ensures, c.loop-done-test.true);
       room = omega (arith, c.min-size.ensures, long, c.loop-done.invariant.room, length-append c.read_operand.new.into (drop n c.loop-done.room), length-drop n c.loop-done.room);

@@ -5,8 +5,8 @@ use Rattle.pdl_pull.proofs.gathering.has_twice_of_many.Given as goal
 abbrev pub invariant-loop-position : goal.invariant-loop-position
 invariant-loop-position l = record {
   within : l.position ≤ length l.places;
-  count : length l.seen.items ≡ l.count;
-  seen : (q : ℕ) → q < l.count → get_or l.seen.items q false ≡ is_among q (drop l.position l.places);
+  count : length l.seen ≡ l.count;
+  seen : (q : ℕ) → q < l.count → get_or l.seen q false ≡ is_among q (drop l.position l.places);
   once : has_repeats (drop l.position l.places) ≡ false;
 }
 

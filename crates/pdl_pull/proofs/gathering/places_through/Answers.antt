@@ -1,6 +1,7 @@
 use Rattle.std.proofs.Common.{◌≡◌, ℕ, List, [], ◌∷◌, ◌++◌, Option, option_and_then, map, ap, ap₂, sym, subst, ◌∙◌, arith}
 use Rattle.std.specs.List.{range_with_len}
 use Rattle.std.proofs.lemmas.List.FromFn.{map-range_with_len_more}
+use Rattle.std.proofs.lemmas.Result.{IfOk-weaker}
 use Rattle.pdl_shape.specs.Places.{IsBelow}
 use Rattle.pdl_shape.specs.Triple.{Triple}
 use Rattle.pdl_nodes.specs.declared.origin.Layout.{Layout}
@@ -26,9 +27,9 @@ pub returns-then-picks_places : goal.returns-then-picks_places
 returns-then-picks_places c =
     let own : List (Option ℕ) = c.as_slice-own.result.now in
     let F : Triple → (ℕ → Option ℕ) → List (Option ℕ) = λ t at. map (λ p. option_and_then (entry (placed_by c.args.known.now t)) (at p)) (range_with_len 0 c.args.count) in
-    c.in_ok-extend_from_slice.ensures.items
-    ∙ ap (λ (ps : List (Option ℕ)). ps ++ own) c.in_ok-places.ensures.items
+    IfOk-weaker c.share.result _ _ (λ places e. e
+    ∙ sym c.as_slice-own.ensures
     ∙ c.picks_places.ensures c.if-picks_places.true
     ∙ ap (λ (t : Triple). F t (entry own)) c.of-shown.ensures
     ∙ ap (λ (ps : List (Option ℕ)). F c.args.triple.now (entry ps)) c.as_slice-own.ensures
-    ∙ ap (λ (l : Layout). F c.args.triple.now (own_at l)) (sym c.in-Choice.is)
+    ∙ ap (λ (l : Layout). F c.args.triple.now (own_at l)) (sym c.in-Choice.is)) c.share.ensures

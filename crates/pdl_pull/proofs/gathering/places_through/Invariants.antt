@@ -6,4 +6,4 @@ use Rattle.pdl_pull.specs.Gathered.{own_at}
 use Rattle.pdl_pull.proofs.gathering.places_through.Given as goal
 
 abbrev pub invariant-loop-position : goal.invariant-loop-position
-invariant-loop-position l = l.places.items ≡ map (λ p. option_and_then (entry (placed_by l.known l.triple)) (own_at l.layout p)) (range_with_len 0 l.position)
+invariant-loop-position l = l.list.items ≡ map (λ p. option_and_then (entry (placed_by l.known l.triple)) (own_at l.layout p)) (range_with_len 0 l.position)

@@ -1,5 +1,5 @@
 -- Four depths more.
-use Rattle.std.proofs.Common.{◌*ℤ◌, ℕ, ℤ, pos, List, get_or, arith, to_z, of_z, FitsSigned, ap₂, ◌∙◌}
+use Rattle.std.proofs.Common.{◌*ℤ◌, ℕ, ℤ, pos, List, get_or, arith, FitsSigned, ap₂, ◌∙◌}
 use Rattle.std.proofs.lemmas.Int.{to_z-of_z}
 use Rattle.std.specs.Int.{w64}
 use Rattle.pdl_reduce.specs.Blocks.{left_at, right_at}

@@ -1,5 +1,5 @@
 -- The numbers of one depth.
-use Rattle.std.proofs.Common.{◌≡◌, ◌+◌, ◌-◌, ◌*◌, ℕ, ℤ, pos, List, get_or, arith, ap, ◌∙◌}
+use Rattle.std.proofs.Common.{◌+◌, ◌-◌, ◌*◌, ℕ, ℤ, pos, List, get_or, arith, ap, ◌∙◌}
 use Rattle.std.proofs.lemmas.List.{get_or-take, get_or-drop}
 use Rattle.pdl_reduce.proofs.matrices.right_at.Goals as goal
 

@@ -1,15 +1,17 @@
 -- Each number is one of the result's type, and prefixes are wrapped late.
-use Rattle.std.proofs.Common.{◌≡◌, ℤ, pos, List, ◌++◌, take, drop, map, fold, to_z, of_z, FitsSigned, ap, sym, subst, ◌∙◌}
+use Rattle.std.proofs.Common.{◌≡◌, ℤ, pos, List, ◌++◌, take, drop, to_z, of_z, FitsSigned, ap, sym, subst, ◌∙◌}
 use Rattle.std.proofs.lemmas.Int.{to_z-of_z}
 use Rattle.std.specs.Int.{w64}
 use Rattle.pdl_elem.specs.declared.Ty.{Ty}
 use Rattle.pdl_elem.specs.Numbers.{wrapped}
 use Rattle.pdl_elem.specs.Types.{InRange}
+use Rattle.pdl_numbers.specs.Prefixes.{wrapped_prefixes}
 use Rattle.pdl_reduce.specs.declared.Reduction.{Reduction}
 use Rattle.pdl_reduce.specs.declared.Reduction.TheVariants.{Sumover, Prodover, Maximum, Minimum, MaximumInd, MinimumInd}
 use Rattle.pdl_reduce.specs.Reductions.{reduced_row, reduced_type, sum_type}
 use Rattle.pdl_reduce.specs.Folds.{total, product, at_prefixes}
-use Rattle.pdl_reduce.proofs.FoldNumbers.{added_as, adding, multiplying, prefixes_wrapped, wrapped_sum, wrapped_product}
+use Rattle.pdl_reduce.proofs.FoldNumbers.{added_as, adding, multiplying, wrapped_sum, wrapped_product}
+use Rattle.pdl_reduce.proofs.FoldPrefixes.{prefixes_are}
 use Rattle.pdl_reduce.proofs.rows.add_row.Goals as goal
 
 -- a number of the type of one reduction
@@ -41,34 +43,26 @@ pub push-requires-in-MinimumInd : goal.push-requires-in-MinimumInd
 push-requires-in-MinimumInd c =
     of_kind c.args.made.now.ty c.args.kind MinimumInd c.args.a.now.ty c.least_place.result (record { sfits = c.least_place.type_inv }) c.requires.typed c.in-MinimumInd.is c.least_place.ensures.in_range
 
-pub run_window-requires-clause-typed : goal.run_window-requires-clause-typed
-run_window-requires-clause-typed c =
-    c.requires.typed ∙ ap (λ (k : Reduction). reduced_type k c.args.a.now.ty) c.in-Cumusumover.is ∙ sym (c.sum_type-ty.ensures ∙ ap sum_type c.strided_type.ensures)
-
 pub returns-in-Cumusumover-clause-value : goal.returns-in-Cumusumover-clause-value
 returns-in-Cumusumover-clause-value c =
     let xs : List ℤ = take c.args.count (drop c.args.first c.args.a.now.elems) in
     let old : List ℤ = c.args.made.now.elems in
-    let T : Ty = c.sum_type-ty.result in
-    let ty : T ≡ sum_type c.args.a.now.ty = c.sum_type-ty.ensures ∙ ap sum_type c.strided_type.ensures in
-    let all : map (wrapped T) (at_prefixes (λ ys. fold adding (pos 0) ys) xs) ≡ at_prefixes (λ ys. wrapped T (total ys)) xs =
-    prefixes_wrapped T (λ ys. fold adding (pos 0) ys) total xs (λ ys. wrapped_sum c.wrapping_laws.ensures T ys) in
+    let t : Ty = c.args.made.now.ty in
+    let ty : t ≡ sum_type c.args.a.now.ty = c.requires.typed ∙ ap (λ (k : Reduction). reduced_type k c.args.a.now.ty) c.in-Cumusumover.is in
+    let all : wrapped_prefixes t adding (pos 0) xs ≡ at_prefixes (λ ys. wrapped t (total ys)) xs =
+    prefixes_are c.prefix_laws.ensures t adding (pos 0) (λ ys. wrapped t (total ys)) xs (wrapped_sum c.wrapping_laws.ensures t) in
     added_as _ _ _ _ c.run_window.ensures.value
-    (ap (λ (zs : List ℤ). old ++ zs) (all ∙ ap (λ (t : Ty). at_prefixes (λ ys. wrapped t (total ys)) xs) ty)
+    (ap (λ (zs : List ℤ). old ++ zs) (all ∙ ap (λ (u : Ty). at_prefixes (λ ys. wrapped u (total ys)) xs) ty)
     ∙ ap (λ (k : Reduction). old ++ reduced_row k c.args.a.now.ty xs) (sym c.in-Cumusumover.is))
-
-pub run_window-requires-in-Cumuprodover-clause-typed : goal.run_window-requires-in-Cumuprodover-clause-typed
-run_window-requires-in-Cumuprodover-clause-typed c =
-    c.requires.typed ∙ ap (λ (k : Reduction). reduced_type k c.args.a.now.ty) c.in-Cumuprodover.is ∙ sym (c.sum_type-ty.ensures ∙ ap sum_type c.strided_type.ensures)
 
 pub returns-in-Cumuprodover-clause-value : goal.returns-in-Cumuprodover-clause-value
 returns-in-Cumuprodover-clause-value c =
     let xs : List ℤ = take c.args.count (drop c.args.first c.args.a.now.elems) in
     let old : List ℤ = c.args.made.now.elems in
-    let T : Ty = c.sum_type-ty.result in
-    let ty : T ≡ sum_type c.args.a.now.ty = c.sum_type-ty.ensures ∙ ap sum_type c.strided_type.ensures in
-    let all : map (wrapped T) (at_prefixes (λ ys. fold multiplying (pos 1) ys) xs) ≡ at_prefixes (λ ys. wrapped T (product ys)) xs =
-    prefixes_wrapped T (λ ys. fold multiplying (pos 1) ys) product xs (λ ys. wrapped_product c.wrapping_laws.ensures T ys) in
+    let t : Ty = c.args.made.now.ty in
+    let ty : t ≡ sum_type c.args.a.now.ty = c.requires.typed ∙ ap (λ (k : Reduction). reduced_type k c.args.a.now.ty) c.in-Cumuprodover.is in
+    let all : wrapped_prefixes t multiplying (pos 1) xs ≡ at_prefixes (λ ys. wrapped t (product ys)) xs =
+    prefixes_are c.prefix_laws.ensures t multiplying (pos 1) (λ ys. wrapped t (product ys)) xs (wrapped_product c.wrapping_laws.ensures t) in
     added_as _ _ _ _ c.run_window-in-Cumuprodover.ensures.value
-    (ap (λ (zs : List ℤ). old ++ zs) (all ∙ ap (λ (t : Ty). at_prefixes (λ ys. wrapped t (product ys)) xs) ty)
+    (ap (λ (zs : List ℤ). old ++ zs) (all ∙ ap (λ (u : Ty). at_prefixes (λ ys. wrapped u (product ys)) xs) ty)
     ∙ ap (λ (k : Reduction). old ++ reduced_row k c.args.a.now.ty xs) (sym c.in-Cumuprodover.is))

@@ -1,29 +1,25 @@
--- One value more is put, and all are put at the end.
-use Rattle.std.proofs.Common.{◌≡◌, ℕ, ◌+◌, ℤ, pos, List, length, map, get_or, drop, rules, arith, ap, sym, ◌∙◌, to_z, of_z}
-use Rattle.std.proofs.lemmas.Int.{to_z-of_z}
-use Rattle.std.specs.Int.{w64}
+-- The cells at the places are packed, and the others stay.
+use Rattle.std.proofs.Common.{◌≡◌, ℕ, List, length, map, drop, rules, ap, sym, subst, ◌∙◌, arith}
+use Rattle.std.proofs.lemmas.List.{take_at}
 use Rattle.std.specs.List.{range_with_len}
-use Rattle.std.specs.Prelude.{Option, None}
-use Rattle.std.proofs.lemmas.List.FromFn.{length-map-range_with_len, get_or-map-range_with_len}
-use Rattle.pdl_shape.specs.Places.{put, write}
-use Rattle.pdl_numbers.proofs.PlaceLists.{write_more, write_done}
+use Rattle.pdl_elem.specs.declared.Ty.{Ty}
+use Rattle.pdl_shape.specs.Places.{write}
+use Rattle.pdl_numbers.specs.Bytes.{ArePacked, number_of}
 use Rattle.pdl_numbers.proofs.packed.Packed.put_by.Goals as goal
 
-pub loop-i-preserved : goal.loop-i-preserved
-loop-i-preserved g c =
-    let n : ℕ = length c.args.values.now in
-    let ps : List (Option ℕ) = map (g.R.Route.goes_to c.args.route.now) (range_with_len 0 n) in
-    let l : length ps ≡ n = length-map-range_with_len (g.R.Route.goes_to c.args.route.now) 0 n in
-    let z : ℤ = get_or c.args.values.now c.loop-i.i (pos 0) in
-    let f : to_z w64 (of_z w64 z) ≡ z = search (rules, to_z-of_z) in
-    let at : c.place.result ≡ get_or ps c.loop-i.i None = c.place.ensures ∙ sym (get_or-map-range_with_len (g.R.Route.goes_to c.args.route.now) 0 n c.loop-i.i c.loop-i.i None (omega arith) (omega arith)) in
-    ap (λ (es : List ℤ). write (drop (c.loop-i.i + 1) ps) (drop (c.loop-i.i + 1) c.args.values.now) es) (c.put.ensures ∙ ap (λ (y : ℤ). put c.place.result y c.loop-i.self) f)
-    ∙ ap (λ (o : Option ℕ). write (drop (c.loop-i.i + 1) ps) (drop (c.loop-i.i + 1) c.args.values.now) (put o z c.loop-i.self)) at
-    ∙ sym (write_more ps c.args.values.now c.loop-i.self c.loop-i.i (omega (arith, l)) (omega arith)) ∙ c.loop-i.invariant
+pub pack_by-requires : goal.pack_by-requires
+pack_by-requires g c =
+    (search rules, (c.requires.few, (c.requires.small, (c.requires.in_range, subst (ArePacked g.T.PackedType.ty) (sym c.as_mut_slice.ensures.value) c.self.invariant))))
+
+pub invariant_of-self : goal.invariant_of-self
+invariant_of-self g c = subst (ArePacked g.T.PackedType.ty) (sym (take_at c.pack_by.new.cells _ c.self.inside.cells.len (omega arith))) c.pack_by.ensures.packed
 
 pub returns : goal.returns
 returns g c =
-    let n : ℕ = length c.args.values.now in
-    let ps : List (Option ℕ) = map (g.R.Route.goes_to c.args.route.now) (range_with_len 0 n) in
-    let l : length ps ≡ n = length-map-range_with_len (g.R.Route.goes_to c.args.route.now) 0 n in
-    sym (write_done ps c.args.values.now c.loop-i.self c.loop-i.i (omega (arith, l))) ∙ c.loop-i.invariant
+    let t : Ty = g.T.PackedType.ty in
+    let cells : List (List ℕ) = c.pack_by.new.cells in
+    let rest : List (List ℕ) = drop (length cells) c.self.inside.cells.items in
+    let before : map (number_of t) c.as_mut_slice.result.now ≡ c.args.self.now = ap (map (number_of t)) c.as_mut_slice.ensures.value ∙ c.self.view_is in
+    ap (map (number_of t)) (take_at cells rest c.self.inside.cells.len (omega arith))
+    ∙ c.pack_by.ensures.value
+    ∙ ap (write (map (g.R.Route.goes_to c.args.route.now) (range_with_len 0 (length c.args.values.now))) c.args.values.now) before

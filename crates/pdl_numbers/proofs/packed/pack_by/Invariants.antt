@@ -1,0 +1,13 @@
+-- What is left to be put gives what the whole list does, and all cells are packed.
+use Rattle.std.proofs.Common.{◌≡◌, length, map, drop}
+use Rattle.std.specs.List.{range_with_len}
+use Rattle.pdl_shape.specs.Places.{write}
+use Rattle.pdl_numbers.specs.Bytes.{ArePacked, number_of}
+use Rattle.pdl_numbers.proofs.packed.pack_by.Given as goal
+
+abbrev pub invariant-loop-i : goal.invariant-loop-i
+invariant-loop-i g l = record {
+  packed : ArePacked g.T.PackedType.ty l.cells;
+  left : write (drop l.i (map (g.R.Route.goes_to l.route) (range_with_len 0 (length l.values)))) (drop l.i l.values) (map (number_of g.T.PackedType.ty) l.cells)
+      ≡ write (map (g.R.Route.goes_to l.route) (range_with_len 0 (length l.values))) l.values (map (number_of g.T.PackedType.ty) l.fn.cells);
+}

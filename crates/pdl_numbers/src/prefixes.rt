@@ -1,0 +1,44 @@
+//! What numbers come to up to each of them, wrapped to a type and packed as it is found.
+ghost use Rattle.std.specs.Prelude.{◌≡◌, ℤ, length, map, fold};
+ghost use Rattle.pdl_elem.specs.Numbers.{wrapped};
+ghost use Rattle.pdl_numbers.specs.Bytes.{bytes_of};
+ghost use Rattle.pdl_numbers.specs.Prefixes.{wrapped_prefixes};
+
+use crate::packed::PackedType;
+use pdl_elem::{wrap, wrapping_laws};
+
+/// How a number is taken into what those before it come to.
+pub trait Folding {
+    ghost taken: { ℤ → ℤ → ℤ };
+
+    fn take(so_far: i64, number: i64) -> i64
+        ensures { result ≡ taken so_far number };
+}
+
+/// The bytes of a number that is wrapped to the type.
+fn packed_wrapped<T: PackedType<N>, const N: usize>(number: i64) -> [u8; N]
+    ensures { result ≡ bytes_of T.ty (wrapped T.ty number) }
+{
+    wrapping_laws();
+    T::pack(wrap(T::known(), i128::from(number)))
+}
+
+/// Sets each cell to the bytes of what the numbers up to the one that stands for it come to, from a
+/// start on, wrapped to the type. It answers what all come to.
+pub(crate) fn pack_prefixes<F: Folding, T: PackedType<N>, const N: usize>(
+    start: i64,
+    numbers: &[i64],
+    cells: &mut [[u8; N]],
+) -> i64
+    requires paired { length cells.old ≡ length numbers.now }
+    ensures value { result ≡ fold F.taken start numbers.now }
+    ensures packed { cells.new
+        ≡ map (bytes_of T.ty) (wrapped_prefixes T.ty F.taken start numbers.now) }
+{
+    let mut so_far = start;
+    for (i, number) in numbers.iter().enumerate() {
+        so_far = F::take(so_far, *number);
+        cells[i] = packed_wrapped::<T, N>(so_far);
+    }
+    so_far
+}
