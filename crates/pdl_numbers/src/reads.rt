@@ -33,7 +33,9 @@ fn read_steps<T: PackedType<N>, const N: usize>(
 }
 
 /// The numbers from a place on, each so far after the one before. Every second number and each
-/// backwards have the loop for themselves: of a step that it knows the compiler makes vectors.
+/// backwards have the loop for themselves: of a step that it knows the compiler makes vectors. They
+/// stand apart, so that short rows are read without a call.
+#[inline(never)]
 fn read_by_step<T: PackedType<N>, const N: usize>(
     numbers: &Packed<T, N>,
     place: u32,
@@ -44,7 +46,8 @@ fn read_by_step<T: PackedType<N>, const N: usize>(
     requires inside { LiesInside (length numbers.now) place inc (length into.old) }
     ensures { HasStepped numbers.now place inc (length into.old) into.new }
 {
-    if inc == 2 {
+    // Of single bytes vectors take longer.
+    if inc == 2 && N != 1 {
         read_steps(numbers, place, 2, into);
     } else if inc == -1 {
         read_steps(numbers, place, -1, into);
