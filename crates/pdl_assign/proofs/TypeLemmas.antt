@@ -1,5 +1,5 @@
--- An assignment by an operator whose right side is one number.
-use Rattle.std.proofs.Common.{◌≡◌, ℕ, zero, suc, ◌<◌, ℤ, pos, true, false, List, [], ◌∷◌, length, map, get_or, Option, Some, None, Result, Ok, is_ok, refl, sym, ◌∙◌, ap, ap₂, All, arith}
+-- The values of an assignment by an operator whose right side is one number, and of one that copies.
+use Rattle.std.proofs.Common.{◌≡◌, ℕ, zero, suc, ◌<◌, ℤ, pos, true, false, List, [], ◌∷◌, length, map, get_or, Option, Some, None, Result, Ok, is_ok, refl, sym, ◌∙◌, ap, ap₂, subst, All, arith}
 use Rattle.std.proofs.lemmas.List.{get_or-map, length-map}
 use Rattle.std.proofs.lemmas.List.Elements.{All-head, All-tail}
 use Rattle.std.proofs.lemmas.List.FromFn.{get_or-map-range_with_len, length-map-range_with_len}
@@ -15,8 +15,9 @@ use Rattle.pdl_shape.specs.Laws.{CutsWithin, PositionLaws}
 use Rattle.pdl_shape.specs.Shape.{coordinates_of, size_of}
 use Rattle.pdl_shape.specs.Stretched.{stretched, stretched_position}
 use Rattle.pdl_numbers.specs.Updates.{updated}
-use Rattle.pdl_lexemes.specs.declared.AssignOp.TheVariants.{With}
+use Rattle.pdl_lexemes.specs.declared.AssignOp.TheVariants.{Set, With}
 use Rattle.pdl_ops.specs.Elementwise.{OpRefusal, values_at, values_of}
+use Rattle.pdl_ops.specs.Parts.{StretchedToItself}
 use Rattle.pdl_ops.specs.Values.{new_values, wrapped_to}
 
 -- what an array of one element is stretched to has that element everywhere
@@ -70,3 +71,11 @@ number_written wraps positions cuts op t s sizes joined old right n same_type al
     let many : length (stretched sizes joined right) ≡ size_of joined = length-map-range_with_len _ 0 (size_of joined) in
     one_written wraps op t s old (stretched sizes joined right) n same_type all (long ∙ sym many)
     (λ i h. one_everywhere positions cuts sizes joined right i b one (omega (arith, h, many)) ∙ sym is) ok
+
+-- elements of the target's type and dimensions are what is written
+pub copy_written : WrappingLaws → StretchedToItself → (t s : Ty) (sizes target : List ℕ) (old right : List ℤ) → s ≡ t → sizes ≡ target → length right ≡ size_of sizes → All (InRange s) right
+    → new_values Set t s old (stretched sizes target right) ≡ Ok right
+copy_written wraps itself t s sizes target old right same_type same_dims long all =
+    ap (λ (ds : List ℕ). Ok (map (wrapped t) (stretched sizes ds right))) (sym same_dims)
+    ∙ ap (λ (es : List ℤ). Ok (map (wrapped t) es)) (itself sizes right long)
+    ∙ ap Ok (wrapped_same wraps t right (subst (λ (y : Ty). All (InRange y) right) same_type all))

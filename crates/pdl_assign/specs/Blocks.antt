@@ -1,5 +1,5 @@
 -- What an assignment of an array to another writes, whole and in blocks.
-use Rattle.std.specs.Prelude.{◌≡◌, ◌≢◌, ◌⊎◌, ◌≤◌, ℕ, ℤ, pos, true, false, List, [], length, get_or, Result, Ok, Err}
+use Rattle.std.specs.Prelude.{◌≡◌, ◌≢◌, ◌⊎◌, ◌≤◌, ℕ, ℤ, pos, false, List, [], length, get_or, Result, Ok, Err}
 use Rattle.pdl_elem.specs.declared.Ty.{Ty}
 use Rattle.pdl_elem.specs.Numbers.{wrapped}
 use Rattle.pdl_elem.specs.Types.{promoted}
@@ -16,7 +16,7 @@ use Rattle.pdl_world.specs.Paths.{root_of}
 use Rattle.pdl_world.specs.Sound.{IsSound}
 use Rattle.pdl_world.specs.Windows.{base}
 use Rattle.pdl_world.specs.World.{World, assign, dims_in, elements, has_repeats, places_in, ty_in}
-use Rattle.pdl_engine.specs.State.{State, is_fresh, shown_in}
+use Rattle.pdl_engine.specs.State.{State, shown_in}
 
 -- the values that an assignment of u to v writes, or why there are none
 abbrev pub values_in : AssignOp → State → (v u : ℕ) → Result (List ℤ) OpRefusal
@@ -78,13 +78,12 @@ abbrev pub list_of : Result (List ℤ) OpRefusal → List ℤ
 list_of (Ok vs) = vs
 list_of (Err e) = []
 
--- these values were written, and v can be lent; nothing else changed
+-- these values were written; nothing else changed
 pub record IsWritten (old : State) (v : ℕ) (values : List ℤ) (new : State) : Type 0 where
   pub world : new.world ≡ assign old.world v values
   pub holds : new.holds ≡ old.holds
   pub next : new.next ≡ old.next
   pub sound : IsSound new.world
-  pub fresh : is_fresh new v ≡ true
 
 -- all values of an assignment were written that fits
 abbrev pub AreWritten : AssignOp → (old : State) → (v u : ℕ) → (new : State) → Type 0

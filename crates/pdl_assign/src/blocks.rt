@@ -14,6 +14,7 @@ ghost use Rattle.pdl_world.specs.World.{dims_in, elements, has_repeats, places_i
 ghost use Rattle.pdl_engine.specs.State.{is_fresh};
 ghost use Rattle.pdl_assign.specs.Blocks.{AreWritten, CanBlock, IsAssigned, IsOneNumber, IsUpdate, IsWritten, block_in, number_at, values_in, written_in};
 
+use crate::copies::is_copied;
 use pdl_buf::{
     Steps, Strided, stretched, strided_dims, strided_get, strided_is_in_range, strided_read,
     strided_type,
@@ -142,6 +143,7 @@ fn write_blocks<L: Ledger, const ROOM: usize>(
     requires can { CanBlock sign engine.old.world target source }
     requires never { is_ok (written_in sign engine.old.world target source) ≡ true }
     ensures written { AreWritten sign engine.old target source engine.new }
+    ensures fresh { is_fresh engine.new target ≡ true }
     ensures counted { steps.new ≡ steps.old + size_of (dims_in engine.old.world target) }
 {
     part_laws();
@@ -234,7 +236,8 @@ fn update_of(engine: &Engine, sign: AssignOp, target: ArrayId, source: ArrayId) 
 }
 
 /// Finds and writes the values of an assignment that nothing refuses: where the elements stand, if
-/// one number changes them, and block by block otherwise. It takes a step for each, and no memory.
+/// one number changes them or they are copied, and block by block otherwise. It takes a step for
+/// each, and no memory.
 fn write_values<L: Ledger>(
     engine: &mut Engine,
     sign: AssignOp,
@@ -253,10 +256,13 @@ fn write_values<L: Ledger>(
     requires can { CanBlock sign engine.old.world target source }
     requires never { is_ok (written_in sign engine.old.world target source) ≡ true }
     ensures written { AreWritten sign engine.old target source engine.new }
+    ensures fresh { is_fresh engine.new target ≡ true }
     ensures counted { steps.new ≡ steps.old + size_of (dims_in engine.old.world target) }
 {
     if let Some(change) = update_of(engine, sign, target, source) {
         engine.update(target, change, steps)
+    } else if is_copied(engine, sign, target, source) {
+        engine.copy(target, source, steps)
     } else if count_of(engine, target) <= LONG {
         write_blocks::<L, BLOCK>(engine, sign, target, source, dims, steps)
     } else {
@@ -281,6 +287,7 @@ pub fn assign_blocks<L: Ledger>(
     requires source_fresh { is_fresh engine.old source ≡ true }
     requires can { CanBlock sign engine.old.world target source }
     ensures assigned { OnOk result (IsAssigned sign engine.old target source engine.new) }
+    ensures fresh { OnOk result (is_fresh engine.new target ≡ true) }
     ensures counted { OnOk result
         (steps.new ≡ steps.old + size_of (dims_in engine.old.world target)) }
     ensures refused { let wanted = values_in sign engine.old target source in
@@ -315,6 +322,7 @@ fn write_shown<L: Ledger, const ROOM: usize>(
     requires type_is { values.now.ty ≡ ty_in engine.old.world target }
     requires count { length values.now.elems ≡ size_of (dims_in engine.old.world target) }
     ensures written { IsWritten engine.old target values.now.elems engine.new }
+    ensures fresh { is_fresh engine.new target ≡ true }
     ensures others { (u : ℕ) → (root_of engine.old.world u ≡ root_of engine.old.world target → ⊥)
         → is_fresh engine.old u ≡ true → is_fresh engine.new u ≡ true }
     ensures counted { steps.new ≡ steps.old + length values.now.elems }
@@ -351,6 +359,7 @@ pub fn assign_shown<L: Ledger>(
     requires type_is { values.now.ty ≡ ty_in engine.old.world target }
     requires count { length values.now.elems ≡ size_of (dims_in engine.old.world target) }
     ensures written { IsWritten engine.old target values.now.elems engine.new }
+    ensures fresh { is_fresh engine.new target ≡ true }
     ensures others { (u : ℕ) → (root_of engine.old.world u ≡ root_of engine.old.world target → ⊥)
         → is_fresh engine.old u ≡ true → is_fresh engine.new u ≡ true }
     ensures counted { steps.new ≡ steps.old + length values.now.elems }

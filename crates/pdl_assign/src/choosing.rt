@@ -10,7 +10,7 @@ use pdl_lexemes::AssignOp;
 use pdl_shape::dims_list;
 
 /// Whether a sign reads no element of the target.
-fn is_set(sign: AssignOp) -> bool
+pub(crate) fn is_set(sign: AssignOp) -> bool
     ensures { IsTrue result ↔ (sign ≡ Set) }
 {
     matches!(sign, AssignOp::Set)

@@ -3,10 +3,14 @@
 //! of them is kept.
 #![tactic(auto)]
 
+mod alike;
 mod blocks;
 mod choosing;
+mod copies;
 mod laws;
+mod through;
 
 pub use blocks::{BLOCK, assign_blocks, assign_shown};
 pub use choosing::can_block;
 pub use laws::worked_blocks;
+pub use through::{assign_through, goes_through};

@@ -7,7 +7,7 @@ ghost use Rattle.pdl_buf.specs.Elements.{listed};
 ghost use Rattle.pdl_numbers.specs.Numbers.{elements_in};
 
 use pdl_elem::{BinaryOp, Ty, apply_all, block_laws};
-use pdl_numbers::{Numbers, numbers_of};
+use pdl_numbers::{Numbers, Run, numbers_of};
 use std::alloc::{AllocError, Global};
 use std::marker::Model;
 
@@ -108,6 +108,30 @@ fn extend_list(
     Ok(())
 }
 
+/// Puts the operator's values at a type on each two numbers of two runs of it after the others of a
+/// list.
+fn extend_list_of(
+    list: &mut Vec<i64>,
+    op: BinaryOp,
+    ty: Ty,
+    left: &Run<'_>,
+    right: &Run<'_>,
+) -> Result<(), AllocError>
+    requires paired { length left.now.elems ≡ length right.now.elems }
+    requires left_type { left.now.ty ≡ ty }
+    requires right_type { right.now.ty ≡ ty }
+    requires divisors { IsTrue (divides op) → All (λ y. y ≢ pos 0) right.now.elems }
+    ensures ok { let values = pairwise (value_of op ty) left.now.elems right.now.elems in
+        OnOk result (list.new.items ≡ list.old.items ++ values) }
+    ensures err { OnErr result (list.new.items ≡ list.old.items) }
+{
+    left.are_in_range();
+    right.are_in_range();
+    let xs = left.to_list(*list.allocator())?;
+    let ys = right.to_list(*list.allocator())?;
+    extend_list(list, op, ty, &xs, &ys)
+}
+
 /// A type and numbers in its range, which are put one block after another: packed, so that they
 /// take no more bytes than the type is wide, or as a list of 64-bit numbers. No array has them yet.
 #[derive(Debug, Drop)]
@@ -192,6 +216,48 @@ impl Packing {
         match &mut self.form {
             Form::Wide(items) => extend_list(items, op, self.ty, left, right),
             Form::Packed(packed) => packed.extend_values(op, left, right),
+        }
+    }
+
+    /// Puts the operator's values at the type on each two numbers of two runs of it after the
+    /// others. Where the operator divides, none of those on the right is 0. Out of memory it puts
+    /// none.
+    pub fn extend_values_of(
+        &mut self,
+        op: BinaryOp,
+        left: &Run<'_>,
+        right: &Run<'_>,
+    ) -> Result<(), AllocError>
+        requires paired { length left.now.elems ≡ length right.now.elems }
+        requires left_type { left.now.ty ≡ self.old.ty }
+        requires right_type { right.now.ty ≡ self.old.ty }
+        requires divisors { IsTrue (divides op) → All (λ y. y ≢ pos 0) right.now.elems }
+        ensures ok { let f = value_of op self.old.ty in
+            let values = pairwise f left.now.elems right.now.elems in
+            OnOk result (self.new ≡ record self.old { elems = self.old.elems ++ values }) }
+        ensures err { OnErr result (self.new ≡ self.old) }
+    {
+        block_laws();
+        match &mut self.form {
+            Form::Wide(items) => extend_list_of(items, op, self.ty, left, right),
+            Form::Packed(packed) => packed.extend_values_of(op, left, right),
+        }
+    }
+
+    /// Puts the numbers of a run of the type after the others. Out of memory it puts none.
+    pub fn extend_run(&mut self, run: &Run<'_>) -> Result<(), AllocError>
+        requires { run.now.ty ≡ self.old.ty }
+        ensures ok { let elems = self.old.elems ++ run.now.elems in
+            OnOk result (self.new ≡ record self.old { elems = elems }) }
+        ensures err { OnErr result (self.new ≡ self.old) }
+    {
+        run.are_in_range();
+        match &mut self.form {
+            Form::Wide(items) => {
+                let numbers = run.to_list(*items.allocator())?;
+                items.extend_from_slice(&numbers)
+            }
+            Form::Packed(packed) => packed.extend_run(run),
         }
     }
 

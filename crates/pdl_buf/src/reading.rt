@@ -1,12 +1,13 @@
-//! Reading a window in blocks, along dimension 1, and its sums.
+//! Reading a window in blocks, along dimension 1, in runs, and its sums.
 ghost use Rattle.std.specs.Prelude.{◌≡◌, ◌<◌, ◌≤◌, ◌+◌, ◌+ℤ◌, ℕ, IsTrue, pos, length, take, drop, fold, get_or, All, IfSome};
 ghost use Rattle.std.specs.Int.{int_wrap, w64};
 ghost use Rattle.pdl_elem.specs.Types.{InRange};
 ghost use Rattle.pdl_shape.specs.Shape.{extent_limit};
 ghost use Rattle.pdl_numbers.specs.Reads.{LieAcross, across};
 
+use crate::ranges::strided_is_in_range;
 use crate::window::{Strided, strided_dims};
-use pdl_numbers::shown_laws;
+use pdl_numbers::{Run, shown_laws};
 use pdl_shape::{dims_list, incs_list};
 
 /// Shorter columns than this are read as well one by one.
@@ -22,6 +23,21 @@ pub fn strided_read(from: &Strided<'_>, first: u32, into: &mut [i64])
     shown_laws();
     let buf = from.buf;
     buf.numbers.read(&from.placement, first, into)
+}
+
+/// Those of the window's elements from a position on that are neighbours in the buffer, in order:
+/// all that are left, or those left of a row, or none where a step along a row goes elsewhere. No
+/// clause says how many.
+pub fn strided_run<'a>(from: &Strided<'a>, first: u32) -> Run<'a>
+    requires { first < length from.now.elems }
+    ensures type_is { result.ty ≡ from.now.ty }
+    ensures shown { result.elems ≡ take (length result.elems) (drop first from.now.elems) }
+    ensures in_range { All (InRange from.now.ty) result.elems }
+{
+    shown_laws();
+    strided_is_in_range(from);
+    let buf = from.buf;
+    buf.numbers.run(&from.placement, first)
 }
 
 /// Sets each element of `into` to one of the window's elements along dimension 1: that at position

@@ -15,3 +15,4 @@ pub mod IndexInside
 pub mod ShapeSteps
 pub mod WhereRising
 pub mod RangeSources
+pub mod InsidePlaces

@@ -1,7 +1,7 @@
 //! index: the parent's first dimension looked up by an array of coordinates.
 ghost use Rattle.std.specs.Prelude.{◌≡◌, ℕ, ℤ, List, ◌+◌, ◌*◌, ◌∷◌, ◌++◌, map, slice_index_or, ◌≢◌, ◌<◌, ◌≤◌, ◌^◌, OnOk, length, drop, slice_index, All, IsSome, is_some, Some, None, Ok, Err, IfOk, IfErr, IfSome, IfNone};
 ghost use Rattle.pdl_shape.specs.Joined.{joined_dims};
-ghost use Rattle.std.specs.List.{range_with_len};
+ghost use Rattle.std.specs.List.{list_all, range_with_len};
 ghost use Rattle.pdl_shape.specs.Shape.{IsDims, IsWithin, extent, extent_limit, size_of, position_of, coordinates_of};
 ghost use Rattle.pdl_shape.specs.Broadcast.{BroadcastsTo, cut_to};
 ghost use Rattle.pdl_shape.specs.Counting.{from_end};
@@ -139,15 +139,31 @@ fn first_uncounted(size: u32, ind: &[i64]) -> Option<usize>
     ensures none { IfNone result (All (λ value. IsSome (from_end value size)) ind.now) }
     ensures first { result ≡ first_outside size ind.now }
 {
+    // Nearly always all are, which a loop without an exit tells in less time.
+    if are_counted(size, ind) {
+        return None;
+    }
     ind.iter().position(|value| !is_counted(*value, size))
+}
+
+/// Whether each value stands for a coordinate of a dimension of size `size`.
+fn are_counted(size: u32, ind: &[i64]) -> bool
+    ensures { result ≡ list_all (λ value. is_some (from_end value size)) ind.now }
+{
+    let mut all = true;
+    for value in ind {
+        all &= is_counted(*value, size);
+    }
+    all
 }
 
 /// Whether a value stands for a coordinate of a dimension of size `size`.
 fn is_counted(value: i64, size: u32) -> bool
     ensures { result ≡ is_some (from_end value size) }
 {
+    // Two tests of a sign: a sum beyond the 64 bits turns it.
     let size = i64::from(size);
-    -size <= value && value < size
+    value.wrapping_add(size) >= 0 && value.wrapping_sub(size) < 0
 }
 
 /// The coordinate that a value stands for in a dimension of size `size`.

@@ -1,14 +1,16 @@
 //! range: a window of the parent at each corner that an index lists.
-ghost use Rattle.std.specs.Prelude.{◌≡◌, ◌≢◌, ◌<◌, ◌≤◌, ◌≤ℤ◌, ◌⊎◌, ◌*◌, ◌+◌, ◌-◌, max, [], ◌∷◌, ◌/◌, ◌%◌, ℕ, false, pos, slice_index, slice_index_or, ◌++◌, length, take, drop, map, filter, All, Ok, Err, IfOk, IfErr, IfSome, IfNone, OnOk, Some, None, vec_len};
+ghost use Rattle.std.specs.Prelude.{◌≡◌, ◌≢◌, ◌<◌, ◌^◌, IsTrue, ◌≤◌, ◌≤ℤ◌, ◌⊎◌, ◌*◌, ◌+◌, ◌-◌, max, [], ◌∷◌, ◌/◌, ◌%◌, ℕ, false, pos, slice_index, slice_index_or, ◌++◌, length, take, drop, map, filter, All, Ok, Err, IfOk, IfErr, IfSome, IfNone, OnOk, Some, None, vec_len};
 ghost use Rattle.std.specs.Bool.{OnFalse};
 ghost use Rattle.std.specs.List.{list_any, range_with_len};
-ghost use Rattle.std.specs.Option.{option_map};
+ghost use Rattle.std.specs.Option.{option_map, unwrap_or};
 ghost use Rattle.pdl_shape.specs.Shape.{IsDims, dims_limit, extent, extent_limit, size_of, position_of, coordinates_of};
 ghost use Rattle.pdl_shape.specs.Limits.{checked_dims};
 ghost use Rattle.pdl_shape.specs.Places.{AllBelow, places_of};
 ghost use Rattle.pdl_shape.specs.Refusals.{Refuses};
 ghost use Rattle.pdl_choice.specs.Choice.{position_in, refusal_of};
 ghost use Rattle.pdl_choice.specs.Edges.{edge_refuses, from_zero};
+ghost use Rattle.pdl_choice.specs.declared.edges.Edge.{Edge as EdgeKind};
+ghost use Rattle.pdl_choice.specs.declared.edges.Edge.TheVariants.{Refuse};
 ghost use Rattle.pdl_choice.specs.Rounds.{CanPlaceAll, CanPlaceEach, numbers_at, placed, window_place};
 ghost use Rattle.pdl_choice.specs.Range.{capped, corner_len, is_negative, is_positive, window_refusal, window_sizes, first_refused, inner_dims, range_dims, range_outside, range_source, AllAllowed};
 
@@ -331,9 +333,8 @@ fn window_rounds(alloc: Global, parent: &[u32], windows: &[u64]) -> Result<Vec<u
     Ok(sizes)
 }
 
-/// The places in a parent of dimensions `parent` of all `count` positions of the windows at
-/// `corners` corners.
-fn window_places(
+/// The places of all `count` positions of the windows at `corners` corners, each found by itself.
+fn places_one_by_one(
     alloc: Global,
     edge: Edge,
     parent: &[u32],
@@ -361,4 +362,153 @@ fn window_places(
         move_on(&sizes, &mut at);
     }
     Ok(places)
+}
+
+/// Whether all windows lie inside the parent, where no edge shows. An edge that refuses others was
+/// asked before.
+fn are_inside(edge: Edge, parent: &[u32], windows: &[u64], ind: &[i64]) -> bool
+    requires fit { length windows.now ≤ length parent.now }
+    requires cornered { length windows.now ≡ 0 → length ind.now ≡ 0 }
+    requires allowed { AllAllowed edge parent.now windows.now ind.now }
+    ensures { IsTrue result → AllAllowed Refuse parent.now windows.now ind.now }
+{
+    match edge {
+        Edge::Refuse => true,
+        _ => first_beyond(Edge::Refuse, parent, windows, ind).is_none(),
+    }
+}
+
+/// The place in the parent of each corner, all of which lie in it. `first` is the first position of
+/// a window.
+fn corner_places(
+    alloc: Global,
+    parent: &[u32],
+    ind: &[i64],
+    corners: u32,
+    first: &[u32],
+) -> Result<Vec<u32>, NoMemory>
+    requires some { 0 < length first.now }
+    requires fit { length first.now ≤ length parent.now + 1 }
+    requires whole { length ind.now ≡ (length first.now - 1) * corners }
+    requires bounded { extent parent.now ≤ extent_limit }
+    requires allowed { CanPlaceAll Refuse parent.now ind.now (length first.now - 1) first.now }
+    requires within { slice_index first.now (length first.now - 1)
+        < size_of (drop (length first.now - 1) parent.now) }
+    ensures places { let corner = λ (q : ℕ). numbers_at ind.now (length first.now - 1) q in
+        IfOk result (λ bases. map (λ base. Some base) bases.items
+        ≡ map (λ q. placed Refuse parent.now (corner q) first.now) (range_with_len 0 corners)) }
+    ensures inside { IfOk result (λ bases. All (λ base. base < size_of parent.now) bases.items) }
+{
+    let len = first.len() - 1;
+    let mut bases = Vec::with_capacity(alloc, corners as usize)?;
+    for number in 0..corners {
+        let numbers = corner_of(ind, len, number);
+        match corner_place(Edge::Refuse, parent, numbers, first) {
+            Some(base) => bases.push(base)?,
+            None => unreachable!(),
+        }
+    }
+    Ok(bases)
+}
+
+/// Adds the places that lie so far past these.
+fn push_past(places: &mut Vec<Option<u32>>, bases: &[u32], past: u32) -> Result<(), NoMemory>
+    requires { All (λ base. base + past < 2 ^ 32) bases.now }
+    ensures { OnOk result (places.new.items
+        ≡ places.old.items ++ map (λ base. Some (base + past)) bases.now) }
+{
+    places.extend(bases.iter().map(|base| Some(*base + past)))
+}
+
+/// Adds the places of one position of the windows, which all lie inside the parent: each lies so far
+/// past its corner's as it would past the parent's first corner, whose numbers are `zeros`.
+fn push_round(
+    places: &mut Vec<Option<u32>>,
+    parent: &[u32],
+    bases: &[u32],
+    zeros: &[i64],
+    at: &[u32],
+) -> Result<(), NoMemory>
+    requires paired { length at.now ≡ length zeros.now + 1 }
+    requires fit { length zeros.now ≤ length parent.now }
+    requires bounded { extent parent.now ≤ extent_limit }
+    requires allowed { CanPlaceEach Refuse parent.now zeros.now at.now }
+    requires within { slice_index at.now (length zeros.now)
+        < size_of (drop (length zeros.now) parent.now) }
+    requires small { All (λ base. base < size_of parent.now) bases.now }
+    ensures { let past = unwrap_or (placed Refuse parent.now zeros.now at.now) 0 in
+        OnOk result (places.new.items
+        ≡ places.old.items ++ map (λ base. Some (base + past)) bases.now) }
+{
+    shape_laws();
+    match corner_place(Edge::Refuse, parent, zeros, at) {
+        Some(past) => push_past(places, bases, past),
+        None => unreachable!(),
+    }
+}
+
+/// The places of all `count` positions of the windows at `corners` corners, which all lie inside the
+/// parent, whatever the edge.
+fn places_inside(
+    alloc: Global,
+    parent: &[u32],
+    windows: &[u64],
+    ind: &[i64],
+    corners: u32,
+    count: u32,
+) -> Result<Vec<Option<u32>>, NoMemory>
+    requires fit { length windows.now ≤ length parent.now }
+    requires whole { length ind.now ≡ length windows.now * corners }
+    requires counts { count ≡ corners * size_of (inner_dims parent.now windows.now) }
+    requires bounded { extent parent.now ≤ extent_limit }
+    requires inner_bounded { extent (inner_dims parent.now windows.now) ≤ extent_limit }
+    requires allowed { AllAllowed Refuse parent.now windows.now ind.now }
+    ensures inside { IfOk result (λ places. AllBelow (size_of parent.now) places.items) }
+    ensures places { let positions = range_with_len 0 count in
+        IfOk result (λ places. (edge : EdgeKind) → places.items
+        ≡ map (window_place edge parent.now windows.now ind.now corners) positions) }
+{
+    shape_laws();
+    let rounds = rounds_of(count, corners);
+    if rounds == 0 {
+        return Ok(Vec::new(alloc));
+    }
+    let sizes = window_rounds(alloc, parent, windows)?;
+    let mut at = vec![in alloc; 0; sizes.len()]?;
+    let bases = corner_places(alloc, parent, ind, corners, &at)?;
+    let zeros = vec![in alloc; 0; windows.len()]?;
+    let mut places = Vec::with_capacity(alloc, count as usize)?;
+    for _round in 0..rounds {
+        push_round(&mut places, parent, &bases, &zeros, &at)?;
+        move_on(&sizes, &mut at);
+    }
+    Ok(places)
+}
+
+/// The places in a parent of dimensions `parent` of all `count` positions of the windows at
+/// `corners` corners.
+fn window_places(
+    alloc: Global,
+    edge: Edge,
+    parent: &[u32],
+    windows: &[u64],
+    ind: &[i64],
+    corners: u32,
+    count: u32,
+) -> Result<Vec<Option<u32>>, NoMemory>
+    requires fit { length windows.now ≤ length parent.now }
+    requires whole { length ind.now ≡ length windows.now * corners }
+    requires counts { count ≡ corners * size_of (inner_dims parent.now windows.now) }
+    requires bounded { extent parent.now ≤ extent_limit }
+    requires inner_bounded { extent (inner_dims parent.now windows.now) ≤ extent_limit }
+    requires allowed { AllAllowed edge parent.now windows.now ind.now }
+    ensures inside { IfOk result (λ places. AllBelow (size_of parent.now) places.items) }
+    ensures places { let place = window_place edge parent.now windows.now ind.now corners in
+        IfOk result (λ places. places.items ≡ map place (range_with_len 0 count)) }
+{
+    if are_inside(edge, parent, windows, ind) {
+        places_inside(alloc, parent, windows, ind, corners, count)
+    } else {
+        places_one_by_one(alloc, edge, parent, windows, ind, corners, count)
+    }
 }

@@ -32,3 +32,4 @@ mod RunLemmas
 mod ApartLemmas
 mod ApartOnce
 mod StateUpdated
+mod ThroughParts

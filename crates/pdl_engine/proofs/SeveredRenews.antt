@@ -29,7 +29,8 @@ use Rattle.pdl_engine.specs.Severed.{BasesAreFresh, ChangesRows, RowsAreSettled}
 use Rattle.pdl_engine.proofs.CutFits.{fitted_all, length_fitted}
 use Rattle.pdl_engine.proofs.SeveredReadied.{IsFreshly, only_ready, ready_fresh}
 
-elements_count : (facts : RowLaws) → (rs : Rows) (v : ℕ) → IsStill rs → has rs v ≡ true → length (elements (world_of rs) v) ≡ size_of (row_at rs v).triple.dims
+-- an array has as many elements as its dimensions say
+pub elements_count : (facts : RowLaws) → (rs : Rows) (v : ℕ) → IsStill rs → has rs v ≡ true → length (elements (world_of rs) v) ≡ size_of (row_at rs v).triple.dims
 elements_count facts rs v s h = ap length (facts.seen.elements_are rs v s h) ∙ length-map (places_seen rs v) (element_at (latest rs (row_at rs v).root)) ∙ (facts.seen.is_seen rs s v h).count
 
 -- the first elements of an array, as many as it has, are all

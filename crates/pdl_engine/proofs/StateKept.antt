@@ -17,6 +17,7 @@ use Rattle.pdl_nodes.specs.Still.{IsStill}
 use Rattle.pdl_nodes.specs.Worlds.{shape, latest}
 use Rattle.pdl_engine.specs.State.{StayFresh, PathIsFresh}
 use Rattle.pdl_engine.specs.StateOf.{IsEngine, state_of, fresh_among}
+use Rattle.pdl_engine.specs.Through.{OthersStayMarked}
 use Rattle.pdl_engine.proofs.StateOfWorlds.{fresh_keeps, path_with, fresh_is, path_live}
 
 -- rows of the same numbers lie below the same ones
@@ -60,8 +61,12 @@ path_state facts rs hs n v s h f =
     let P : List ℕ → Type 0 = λ xs. All (λ u. is_listed (fresh_among rs rs) u ≡ true) xs in
     subst P (sym (path_with (latest rs) (shape rs) v)) (λ i d l. fresh_is facts rs (get_or (path (shape rs) v) i d) s (path_live rs s v h i d l) ∙ f i d l)
 
--- arrays of other families can be lent as before
-pub others_fresh : (facts : RowLaws) → (old new : Rows) (v u : ℕ) → IsStill old → IsStill new → IsAlike old new → MarksTarget old v new → has old u ≡ true → ((row_at old u).root ≡ (row_at old v).root → ⊥) → is_fresh_in old u ≡ true → is_fresh_in new u ≡ true
-others_fresh facts old new v u s t a m h n f =
+-- what could be lent in other families can be lent
+pub others_lent : (facts : RowLaws) → (old new : Rows) (v u : ℕ) → IsStill old → IsAlike old new → OthersStayMarked old v new → has old u ≡ true → ((row_at old u).root ≡ (row_at old v).root → ⊥) → is_fresh_in old u ≡ true → is_fresh_in new u ≡ true
+others_lent facts old new v u s a m h n f =
     let q : IsSeen old u = facts.seen.is_seen old s u h in
-    ap (λ b. (row_at new b).mark) (a.base_is u) ∙ m (row_at old u).base q.base_has ∙ rw (ne_eqb (row_at old (row_at old u).base).root (row_at old v).root (λ e. n (sym q.base_root ∙ e))) f
+    ap (λ b. (row_at new b).mark) (a.base_is u) ∙ m (row_at old u).base q.base_has (λ e. n (sym q.base_root ∙ e)) f
+
+-- so can what could after an assignment
+pub others_fresh : (facts : RowLaws) → (old new : Rows) (v u : ℕ) → IsStill old → IsStill new → IsAlike old new → MarksTarget old v new → has old u ≡ true → ((row_at old u).root ≡ (row_at old v).root → ⊥) → is_fresh_in old u ≡ true → is_fresh_in new u ≡ true
+others_fresh facts old new v u s t a m h n f = others_lent facts old new v u s a (λ b g d k. m b g ∙ rw (ne_eqb (row_at old b).root (row_at old v).root d) k) h n f

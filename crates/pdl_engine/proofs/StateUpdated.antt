@@ -1,11 +1,13 @@
--- The elements of an array over its root that are changed where they stand.
-use Rattle.std.proofs.Common.{◌≡◌, ℕ, ℤ, true, false, List, map, sym, ◌∙◌, ap, ap₂, subst}
+-- The elements of an array over its root that are changed where they stand, or copied from another
+-- one.
+use Rattle.std.proofs.Common.{◌≡◌, ◌≢◌, ℕ, ℤ, true, false, List, map, sym, ◌∙◌, ap, ap₂, subst}
 use Rattle.pdl_elem.specs.declared.Ty.{Ty}
 use Rattle.pdl_numbers.specs.Updates.{Suits, updated}
 use Rattle.pdl_numbers.specs.declared.updates.Update.{Update}
 use Rattle.pdl_world.specs.Paths.{root_of}
-use Rattle.pdl_world.specs.World.{elements, has_repeats, places_in, ty_in}
+use Rattle.pdl_world.specs.World.{World, dims_in, elements, has_repeats, places_in, ty_in}
 use Rattle.pdl_nodes.specs.Alike.{is_fresh_in}
+use Rattle.pdl_nodes.specs.Copies.{CanCopy}
 use Rattle.pdl_nodes.specs.Families.{InOrder}
 use Rattle.pdl_nodes.specs.Known.{AreKnown}
 use Rattle.pdl_nodes.specs.RowLaws.{RowLaws}
@@ -36,3 +38,18 @@ over_root facts rs v o l e = sym (base_are facts rs v o.still l) ∙ e ∙ root_
 pub values_are : (facts : RowLaws) → (u : Update) (rs : Rows) (v : ℕ) → InOrder rs → has rs v ≡ true → is_fresh_in rs v ≡ true → updated_at u rs v ≡ map (updated (ty_in (world_of rs) v) u) (elements (world_of rs) v)
 values_are facts u rs v o l f =
     ap₂ (λ (y : Ty) (es : List ℤ). map (updated y u) es) (sym (facts.seen.ty_are rs v o.still l)) (lent_elements facts rs v o l f)
+
+-- what a copy needs of rows, where it is so of their world
+pub can_copy : (facts : RowLaws) → (rs : Rows) (w : World) (v u : ℕ) → world_of rs ≡ w → InOrder rs → AreKnown rs → has rs v ≡ true → has rs u ≡ true → is_fresh_in rs v ≡ true → is_fresh_in rs u ≡ true
+    → root_of w u ≢ root_of w v → ty_in w u ≡ ty_in w v → dims_in w u ≡ dims_in w v → CanCopy rs v u
+can_copy facts rs w v u e o k l m f h apart type_is dims_are = record {
+  order = o;
+  known = k;
+  live = l;
+  fresh = f;
+  source_live = m;
+  source_fresh = h;
+  apart = λ same. apart (ap (λ x. root_of x u) (sym e) ∙ root_are facts rs u o.still m ∙ same ∙ sym (root_are facts rs v o.still l) ∙ ap (λ x. root_of x v) e);
+  same_type = sym (facts.seen.ty_are rs u o.still m) ∙ ap (λ x. ty_in x u) e ∙ type_is ∙ ap (λ x. ty_in x v) (sym e) ∙ facts.seen.ty_are rs v o.still l;
+  same_dims = sym (facts.seen.dims_are rs u o.still m) ∙ ap (λ x. dims_in x u) e ∙ dims_are ∙ ap (λ x. dims_in x v) (sym e) ∙ facts.seen.dims_are rs v o.still l;
+}

@@ -12,3 +12,4 @@ pub mod Reading
 pub mod Looks
 pub mod Resting
 pub mod Apart
+pub mod Through

@@ -27,7 +27,7 @@ ghost use Rattle.pdl_engine.specs.State.{IsLazy, IsLentAs, Joins, OthersWait, Pa
 use crate::depth::is_deeper;
 use crate::foreseeing::{Foreseen, Foresight, foresee, foretell};
 use crate::spread::lies_apart;
-use crate::{reaching, readying, releases, severing};
+use crate::{reaching, readying, releases, severing, through};
 use pdl_buf::{Buf, Elements, NoMemory, Steps, Strided, buf_of_elements, strided};
 use pdl_elem::Ty;
 use pdl_nodes::{
@@ -52,7 +52,7 @@ pub type ArrayId = u64;
 #[derive(Drop)]
 pub struct Engine {
     alloc: Global,
-    table: Table,
+    pub(crate) table: Table,
     holds: Holds,
     next: u64,
     loose: Vec<u64>,
@@ -422,6 +422,69 @@ impl Engine {
         row_laws();
         part_laws();
         pdl_push::replace(&mut self.table, id, values)
+    }
+
+    /// Whether it is plain that an array is a view that is its own base and wasn't read: it can't be
+    /// lent, and its places weren't found yet. What is assigned to all of it needn't be put into
+    /// elements of its own then. Where it is false nothing is said.
+    pub fn is_unread(&self, id: ArrayId) -> bool
+        requires { IsLive self.now.world id }
+        ensures own { result ≡ true → base self.now.world id ≡ id }
+        ensures view { result ≡ true → root_of self.now.world id ≢ id }
+        ensures stale { result ≡ true → is_fresh self.now id ≡ false }
+    {
+        row_laws();
+        let node = self.table.node(id);
+        if node.base() != id {
+            return false;
+        }
+        if node.root() == id {
+            return false;
+        }
+        if node.mark() {
+            return false;
+        }
+        node.places().is_none()
+    }
+
+    /// Puts the elements of an array, in rising order, at the positions of such a view: they go into
+    /// its root. The view's own elements aren't brought up to date, neither before nor afterwards. The
+    /// other array can be lent, is of another root, and has the same type and dimensions. What waits
+    /// in the view's family is written back first, and the arrays above the view are brought up to
+    /// date, for its places; of the family that can be lent afterwards which is shown over the root.
+    /// It takes no more steps than to make the view one that can be lent. Out of memory, the arrays are
+    /// as they were, and what could be lent can be lent.
+    pub fn assign_through<L: Ledger>(
+        &mut self,
+        id: ArrayId,
+        source: ArrayId,
+        steps: &mut Steps<L>,
+    ) -> Result<(), NoMemory>
+        requires live { IsLive self.old.world id }
+        requires source { IsLive self.old.world source }
+        requires own { base self.old.world id ≡ id }
+        requires view { root_of self.old.world id ≢ id }
+        requires stale { is_fresh self.old id ≡ false }
+        requires source_fresh { is_fresh self.old source ≡ true }
+        requires apart { root_of self.old.world source ≢ root_of self.old.world id }
+        requires same_type { ty_in self.old.world source ≡ ty_in self.old.world id }
+        requires same_dims { dims_in self.old.world source ≡ dims_in self.old.world id }
+        ensures world { let w = self.old.world in
+            OnOk result (self.new.world ≡ assign w id (elements w source)) }
+        ensures holds { self.new.holds ≡ self.old.holds }
+        ensures next { self.new.next ≡ self.old.next }
+        ensures same { OnErr result (SameArrays self.old self.new) }
+        ensures stay { OnErr result (StayFresh self.old self.new) }
+        ensures others { (u : ℕ) → (root_of self.old.world u ≡ root_of self.old.world id → ⊥)
+            → is_fresh self.old u ≡ true → is_fresh self.new u ≡ true }
+        ensures settled { waiting self.new id ≡ None }
+        ensures waits { OthersWait self.old id self.new }
+        ensures sound { IsSound self.new.world }
+        ensures counted { let most = ready_steps self.old id in steps.new ≤ steps.old + most }
+    {
+        row_laws();
+        part_laws();
+        through::assign_through(&mut self.table, self.alloc, id, source, steps)
     }
 
     /// The root of an array, by which two arrays are of one family.

@@ -1,8 +1,8 @@
 //! The elements that an array would have after an assignment, found before anything is changed
 //! (PDL::Dataflow).
-ghost use Rattle.std.specs.Prelude.{◌≡◌, ◌<◌, ℕ, ℤ, List, All, IfOk, IsTrue, None, Some, get_or, length, true};
+ghost use Rattle.std.specs.Prelude.{◌≡◌, ◌<◌, ◌≤◌, ◌+◌, ◌++◌, ℕ, ℤ, List, All, IfOk, IsTrue, None, OnOk, Some, drop, get_or, length, take, true};
 ghost use Rattle.pdl_elem.specs.Types.{InRange};
-ghost use Rattle.pdl_shape.specs.Shape.{size_of};
+ghost use Rattle.pdl_shape.specs.Shape.{extent_limit, size_of};
 ghost use Rattle.pdl_world.specs.Sound.{IsSound};
 ghost use Rattle.pdl_world.specs.World.{elements, root_elements};
 ghost use Rattle.pdl_nodes.specs.Alike.{is_fresh_in};
@@ -104,6 +104,25 @@ fn elements_left(
     }
 }
 
+/// How many elements are read at a time. Room for so many is still in the processor's cache when they
+/// are read into it.
+const READ: usize = 1024;
+
+/// Puts so many of the window's elements after those that are read already.
+fn read_more(window: &Strided<'_>, numbers: &mut Vec<i64>, count: usize) -> Result<(), AllocError>
+    requires within { length numbers.old.items + count ≤ length window.now.elems }
+    requires few { length window.now.elems ≤ extent_limit }
+    ensures items { let next = take count (drop (length numbers.old.items) window.now.elems) in
+        OnOk result (numbers.new.items ≡ numbers.old.items ++ next) }
+    ensures in_range { let next = take count (drop (length numbers.old.items) window.now.elems) in
+        OnOk result (All (InRange window.now.ty) next) }
+{
+    let start = numbers.len();
+    numbers.resize(start + count, 0)?;
+    strided_read(window, start as u32, &mut numbers[start..]);
+    Ok(())
+}
+
 /// The elements that a window shows.
 pub fn all_shown(alloc: Global, window: &Strided<'_>) -> Result<Vec<i64>, AllocError>
     ensures items { IfOk result (λ ns. ns.items ≡ window.now.elems) }
@@ -111,8 +130,11 @@ pub fn all_shown(alloc: Global, window: &Strided<'_>) -> Result<Vec<i64>, AllocE
     ensures count { IfOk result (λ ns. length ns.items ≡ size_of window.now.dims) }
 {
     let count = elements_of(strided_dims(window)) as usize;
-    let mut numbers = vec![in alloc; 0; count]?;
-    strided_read(window, 0, &mut numbers);
+    let mut numbers = Vec::with_capacity(alloc, count)?;
+    while numbers.len() < count {
+        let more = READ.min(count - numbers.len());
+        read_more(window, &mut numbers, more)?;
+    }
     Ok(numbers)
 }
 

@@ -8,6 +8,7 @@
 #![tactic(auto)]
 
 mod by_place;
+mod copying;
 mod depth;
 mod engine;
 mod foreseeing;
@@ -17,6 +18,7 @@ mod readying;
 mod releases;
 mod severing;
 mod spread;
+mod through;
 pub mod worked;
 
 pub use engine::{ArrayId, Engine};

@@ -48,3 +48,4 @@ mod HoldsRemoved
 mod HoldsGone
 mod HoldsAlone
 mod UpdateLemmas
+mod CopyLemmas

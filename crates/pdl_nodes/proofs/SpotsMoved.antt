@@ -17,7 +17,7 @@ use Rattle.pdl_nodes.specs.Assigned.{entry, seen, seen_at}
 use Rattle.pdl_nodes.specs.Spots.{spots}
 
 -- as many places as values are written
-write_few : (ps : List (Option ℕ)) (vs es : List ℤ) → write (take (length vs) ps) vs es ≡ write ps vs es
+pub write_few : (ps : List (Option ℕ)) (vs es : List ℤ) → write (take (length vs) ps) vs es ≡ write ps vs es
 write_few [] [] es = refl
 write_few [] (x ∷ vs) es = refl
 write_few (p ∷ ps) [] es = refl

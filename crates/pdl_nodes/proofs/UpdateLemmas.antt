@@ -90,21 +90,28 @@ update_writes laws u t v c = record {
       All-map (InRange (row_at t v).ty) (updated (row_at t v).ty u) es (λ k d h. laws.in_range (row_at t v).ty (binary_whole u.op (row_at t v).ty (get_or es k d) u.number)));
 }
 
--- they are put at the array's places
+-- values that are put where the triple of an array over its root shows it are put at its places
+pub put_is : (t : Rows) (v : ℕ) (vs : List ℤ) → InOrder t → has t v ≡ true → (row_at t v).base ≡ (row_at t v).root → length vs ≡ size_of (row_at t v).triple.dims
+    → write (placed_from (row_at t v).triple 0 (size_of (row_at t v).triple.dims)) vs (row_at t (row_at t v).root).kept ≡ put_at Root t v 0 vs
+put_is t v vs o l b long =
+    let s : IsSeen t v = is_seen t o.still v l in
+    let tr : Triple = (row_at t v).triple in
+    let rt : ℕ = (row_at t v).root in
+    let kept : List ℤ = (row_at t rt).kept in
+    ap (λ (k : ℕ). write (placed_from tr 0 k) vs kept) (sym long)
+    ∙ route_is (placed None) tr tr 0 vs kept refl (omega (arith, long))
+    ∙ ap (λ (ps : List (Option ℕ)). write (drop 0 ps) vs kept) (sym (over_root t rt v o.still l (s.root_has, s.root_root) b))
+
+-- and so is what becomes of the elements
 pub update_is : (u : Update) (t : Rows) (v : ℕ) → InOrder t → has t v ≡ true → (row_at t v).base ≡ (row_at t v).root
     → write (placed_from (row_at t v).triple 0 (size_of (row_at t v).triple.dims)) (map (updated (row_at t (row_at t v).root).ty u) (shown_through (row_at t v).triple (row_at t (row_at t v).root).kept)) (row_at t (row_at t v).root).kept
     ≡ put_at Root t v 0 (updated_at u t v)
 update_is u t v o l b =
     let s : IsSeen t v = is_seen t o.still v l in
     let tr : Triple = (row_at t v).triple in
-    let rt : ℕ = (row_at t v).root in
-    let vs : List ℤ = updated_at u t v in
-    let kept : List ℤ = (row_at t rt).kept in
-    let long : length vs ≡ size_of tr.dims = updated_count u t v in
+    let kept : List ℤ = (row_at t (row_at t v).root).kept in
     ap₂ (λ (y : Ty) (x : ℕ). write (placed_from tr 0 (size_of tr.dims)) (map (updated y u) (shown_through tr (row_at t x).kept)) kept) s.root_ty (sym b)
-    ∙ ap (λ (k : ℕ). write (placed_from tr 0 k) vs kept) (sym long)
-    ∙ route_is (placed None) tr tr 0 vs kept refl (omega (arith, long))
-    ∙ ap (λ (ps : List (Option ℕ)). write (drop 0 ps) vs kept) (sym (over_root t rt v o.still l (s.root_has, s.root_root) b))
+    ∙ put_is t v (updated_at u t v) o l b (updated_count u t v)
 
 -- ---- where it stands
 
@@ -122,13 +129,13 @@ once_at twice u t at c h b =
     over_root t at.root at.id c.order.still c.live i (ap (λ (x : Shown). x.base) (sym h) ∙ b) ∙ ap (λ (x : Shown). placed_by None x.triple) (sym h) in
     shows_once twice at.triple (ap has_repeats (sym places) ∙ c.once)
 
-pub reaches_at : PositionLaws → (u : Update) (t : Rows) (at : Shown) → CanUpdate u t at.id → at ≡ shown_of at.id (row_at t at.id) → at.base ≡ at.root → Reaches at.triple (length (row_at t at.root).kept)
-reaches_at laws u t at c h b =
-    let i : IsRoot t at.root = root_at t at c.order c.live h in
-    let s : IsSeen t at.id = is_seen t c.order.still at.id c.live in
+pub root_reaches : PositionLaws → (t : Rows) (at : Shown) → InOrder t → has t at.id ≡ true → at ≡ shown_of at.id (row_at t at.id) → at.base ≡ at.root → Reaches at.triple (length (row_at t at.root).kept)
+root_reaches laws t at o l h b =
+    let i : IsRoot t at.root = root_at t at o l h in
+    let s : IsSeen t at.id = is_seen t o.still at.id l in
     let base : (row_at t at.id).base ≡ at.root = ap (λ (x : Shown). x.base) (sym h) ∙ b in
     let fits : Below (size_of (row_at t at.root).triple.dims) (spots (row_at t at.id).triple) = (let P : ℕ → Type 0 = λ x. Below (size_of (row_at t x).triple.dims) (spots (row_at t at.id).triple) in subst P base s.fits) in
-    let few : Below (length (row_at t at.root).kept) (spots (row_at t at.id).triple) = (let P : ℕ → Type 0 = λ n. Below n (spots (row_at t at.id).triple) in subst P (sym (c.order.family at.root i).count) fits) in
+    let few : Below (length (row_at t at.root).kept) (spots (row_at t at.id).triple) = (let P : ℕ → Type 0 = λ n. Below n (spots (row_at t at.id).triple) in subst P (sym (o.family at.root i).count) fits) in
     let P : Triple → Type 0 = λ w. Reaches w (length (row_at t at.root).kept) in
     subst P (ap (λ (x : Shown). x.triple) (sym h)) (reaches_below laws (row_at t at.id).triple (length (row_at t at.root).kept) few)
 

@@ -13,6 +13,8 @@ pub record KeptLaws : Type 0 where
   -- rows that are alike keep what their types keep
   pub sized_alike :
       (old new : Rows) → IsStill old → IsStill new → IsAlike old new → AreSized old → AreSized new
+  -- and what is alike to them is alike
+  pub alike_trans : (a b c : Rows) → IsAlike a b → IsAlike b c → IsAlike a c
   -- where also no mark is lost what could be lent can be lent
   pub fresh_stays :
       (old new : Rows) (v : ℕ) → IsAlike old new → KeepsMarks old new → is_fresh_in old v ≡ true

@@ -36,4 +36,5 @@ pub mod RowLaws
 pub mod Quiet
 pub mod Put
 pub mod QuietLaws
+pub mod Copies
 pub mod Updates

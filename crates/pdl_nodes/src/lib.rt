@@ -5,6 +5,7 @@
 
 mod apart;
 mod children;
+mod copies;
 mod descent;
 mod faults;
 mod holds;

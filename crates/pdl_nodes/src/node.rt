@@ -2,7 +2,7 @@
 ghost use Rattle.std.specs.Prelude.{◌≡◌, ℕ, ◌+◌, ◌<◌, ◌≤◌, ◌^◌, ◌==◌, if◌then◌else◌, [], drop, length, map, All, is_some, true, false, Some, None};
 ghost use Rattle.std.specs.List.{range_with_len};
 ghost use Rattle.pdl_elem.specs.Types.{InRange};
-ghost use Rattle.pdl_shape.specs.Places.{write};
+ghost use Rattle.pdl_shape.specs.Places.{AllBelow, write};
 ghost use Rattle.pdl_shape.specs.Shape.{extent_limit, size_of};
 ghost use Rattle.pdl_shape.specs.Triple.{Reaches};
 ghost use Rattle.pdl_numbers.specs.Shown.{shown_through};
@@ -16,7 +16,9 @@ ghost use Rattle.pdl_nodes.specs.Spots.{spots};
 
 use crate::moves::{OverBase, ThroughBase, are_seen};
 use crate::origin::Origin;
-use pdl_buf::{Buf, Steps, scatter_along, scatter_by, scatter_from, scatter_onward, update};
+use pdl_buf::{
+    Buf, Steps, scatter, scatter_along, scatter_by, scatter_from, scatter_onward, update,
+};
 use pdl_choice::Places;
 use pdl_elem::Ty;
 use pdl_numbers::{Placement, Route, Update};
@@ -252,6 +254,28 @@ impl Node {
     {
         match &mut self.kept {
             Some(kept) => scatter_from(kept, places, from, steps),
+            None => unreachable!(),
+        }
+    }
+
+    /// Puts values at places of what is kept, in order. A value without a place is dropped. It takes a
+    /// step for each value.
+    pub(crate) fn put_listed<L: Ledger>(
+        &mut self,
+        places: &[Option<u32>],
+        values: &[i64],
+        steps: &mut Steps<L>,
+    )
+        requires buffered { is_buffered self.old ≡ true }
+        requires paired { length values.now ≡ length places.now }
+        requires within { AllBelow (length self.old.kept) places.now }
+        requires in_range { All (InRange self.old.ty) values.now }
+        ensures value { self.new
+            ≡ record self.old { kept = write places.now values.now self.old.kept } }
+        ensures counted { steps.new ≡ steps.old + length values.now }
+    {
+        match &mut self.kept {
+            Some(kept) => scatter(kept, places, values, steps),
             None => unreachable!(),
         }
     }

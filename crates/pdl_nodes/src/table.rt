@@ -1,7 +1,9 @@
 //! Nodes by their numbers: a slab, and the key of each number.
-ghost use Rattle.std.specs.Prelude.{◌≡◌, ◌≢◌, ℕ, ◌+◌, ◌-◌, ◌<◌, ◌≤◌, ◌^◌, ◌==◌, ◌∷◌, ◌||◌, if◌then◌else◌, [], true, false, length, is_none, Some, None, IfSome, OnOk, OnErr};
+ghost use Rattle.std.specs.Prelude.{◌≡◌, ◌≢◌, ℕ, ◌+◌, ◌-◌, ◌<◌, ◌≤◌, ◌^◌, ◌==◌, ◌∷◌, ◌||◌, if◌then◌else◌, [], drop, true, false, length, is_none, Some, None, All, IfSome, OnOk, OnErr};
 ghost use Rattle.std.specs.Option.{IsSome};
 ghost use Rattle.slab.specs.Slab.{HasRoomFor};
+ghost use Rattle.pdl_elem.specs.Types.{InRange};
+ghost use Rattle.pdl_shape.specs.Places.{AllBelow, write};
 ghost use Rattle.pdl_shape.specs.Shape.{size_of};
 ghost use Rattle.pdl_world.specs.Cut.{has_views};
 ghost use Rattle.pdl_nodes.specs.Below.{AreBelow};
@@ -16,11 +18,13 @@ ghost use Rattle.pdl_nodes.specs.Renewed.{CanDerive, CanRenew, is_of, layout_at,
 ghost use Rattle.pdl_nodes.specs.Families.{InOrder};
 ghost use Rattle.pdl_nodes.specs.Known.{AreKnown};
 ghost use Rattle.pdl_nodes.specs.Put.{IsWrite, put_in};
+ghost use Rattle.pdl_nodes.specs.Copies.{CanCopy, shown_at};
 ghost use Rattle.pdl_nodes.specs.Updates.{CanUpdate, updated_at};
 ghost use Rattle.pdl_nodes.specs.Worlds.{IsRoot, latest, shape};
 ghost use Rattle.pdl_nodes.specs.declared.node.Goal.TheVariants.{Root};
 
 use crate::children::Children;
+use crate::copies::copy_into;
 use crate::marked::{Marked, unmark, unmark_one};
 use crate::node::{Goal, Lifted, Node, Shown};
 use crate::relaid::Relaid;
@@ -305,6 +309,32 @@ impl Table {
         self.nodes[key].update(change, &at.triple, steps);
     }
 
+    /// Puts the elements of an array at the positions of another one, whose base is its root. Both
+    /// have the same type and dimensions, and different roots. They are copied from one buffer to
+    /// the other. It takes a step for each. Marks are left to the caller.
+    pub fn copy<L: Ledger>(&mut self, at: &Shown, source: u64, steps: &mut Steps<L>)
+        requires copy { CanCopy self.old at.now.id source }
+        requires shown { at.now ≡ shown_of at.now.id (row_at self.old at.now.id) }
+        requires over_root { at.now.base ≡ at.now.root }
+        ensures write { IsWrite self.old at.now.id 0 (shown_at self.old source) }
+        ensures put { let values = shown_at self.old source in
+            self.new ≡ each (put_in Root self.old at.now.id 0 values) self.old }
+        ensures counted { steps.new ≡ steps.old + size_of at.now.triple.dims }
+    {
+        shape_laws();
+        let key = self.keys[at.root];
+        let mut elements = self.nodes[key].take_kept();
+        copy_into(
+            &self.keys,
+            &self.nodes,
+            source,
+            &at.triple,
+            &mut elements,
+            steps,
+        );
+        self.nodes[key].keep(elements);
+    }
+
     /// Notes the view that waits in the family of a root, or that none does.
     pub fn set_waiting(&mut self, id: u64, waiting: Option<u64>)
         requires live { has self.old id ≡ true }
@@ -426,6 +456,31 @@ impl Table {
         self.nodes[key].put_in_order(first, values, steps);
         mark_at(&self.keys, &mut self.nodes, &mut self.marked, id, id, key);
         None
+    }
+
+    /// Puts values at places of a root, those from a position on, in order. A value without a place is
+    /// dropped. It takes a step for each value. Marks, and what waits, are left to the caller.
+    pub fn put_listed<L: Ledger>(
+        &mut self,
+        root: u64,
+        places: &[Option<u32>],
+        first: u32,
+        values: &[i64],
+        steps: &mut Steps<L>,
+    )
+        requires order { InOrder self.old }
+        requires root { IsRoot self.old root }
+        requires listed { first + length values.now ≤ length places.now }
+        requires within { AllBelow (size_of (row_at self.old root).triple.dims) places.now }
+        requires in_range { All (InRange (row_at self.old root).ty) values.now }
+        ensures put { let kept = (row_at self.old root).kept in
+            self.new ≡ each (kept_in root (write (drop first places.now) values.now kept)) self.old }
+        ensures counted { steps.new ≡ steps.old + length values.now }
+    {
+        let from = first as usize;
+        let end = from + values.len();
+        let key = self.keys[root];
+        self.nodes[key].put_listed(&places[from..end], values, steps);
     }
 
     /// A root keeps these elements in the place of its own, and is marked alone of its family, as

@@ -1,9 +1,9 @@
 -- A number's bytes give the number back.
-use Rattle.std.proofs.Common.{◌≡◌, ℕ, ◌+◌, ◌<◌, ◌≤◌, ℤ, pos, negsuc, List, [], ◌∷◌, ◌++◌, length, length-append, map, take, get_or, arith, refl, ap, ap₂, sym, ◌∙◌, All}
+use Rattle.std.proofs.Common.{◌≡◌, ℕ, ◌+◌, ◌<◌, ◌≤◌, ℤ, pos, negsuc, List, [], ◌∷◌, ◌++◌, length, length-append, map, take, drop, get_or, arith, refl, ap, ap₂, sym, ◌∙◌, All}
 use Rattle.std.specs.Prelude.{slice_set}
 use Rattle.std.specs.List.{flat_map}
 use Rattle.std.proofs.lemmas.List.{append_assoc, length-map, map-append, map-set, map_more, take_more_set, take_all}
-use Rattle.std.proofs.Math.Seq.{take-append_seam}
+use Rattle.std.proofs.Math.Seq.{drop-append_seam, take-append_seam}
 use Rattle.std.proofs.lemmas.List.Elements.{All-append, All-map, All-set, All-head, All-tail}
 use Rattle.std.proofs.lemmas.Int.{ints}
 use Rattle.std.proofs.lemmas.Nat.{from_le_bytes-to_le_bytes_2, from_le_bytes-to_le_bytes_4, from_le_bytes-to_le_bytes_8}
@@ -121,3 +121,16 @@ extended t old resized now set post rest fill es s k n l h m r e p =
     let front : take s now ≡ old = ap (take s) all ∙ ap (λ (k : ℕ). take k (old ++ fill)) (sym l) ∙ take-append_seam old fill in
     let packed : length (map (bytes_of t) es) ≡ length es = simp length-map in
     keep_two (take s now) set post rest n (omega (arith, ap length front, l, m, ap length p, packed)) ∙ ap₂ (λ xs ys. xs ++ ys) front p
+
+-- ---- cells that were put behind others
+
+pub put_behind : {X : Type 0} (old now new : List X) (s n : ℕ) → length old ≡ s → now ≡ old ++ new → length now ≤ s + n → take n (drop s now) ≡ new
+put_behind old now new s n l e h =
+    ap₂ (λ k xs. take n (drop k xs)) (sym l) e ∙ ap (take n) (drop-append_seam old new)
+    ∙ take_all n new (omega (arith, h, l, ap length e, length-append old new))
+
+-- what is kept, once those are changed
+pub changed_behind : (t : Ty) (old grown now set post rest new : List (List ℕ)) (es : List ℤ) (s n : ℕ) → length old ≡ s → s + length es ≡ n → grown ≡ old ++ new → now ≡ grown
+    → set ≡ map (bytes_of t) es → take n (take s now ++ (set ++ post) ++ rest) ≡ old ++ map (bytes_of t) es
+changed_behind t old grown now set post rest new es s n l m r e p =
+    extended t old grown now set post rest new es s s n l (omega arith) m (r ∙ ap (λ xs. xs ++ new) (sym (take_all s old (omega (arith, l))))) e p

@@ -10,3 +10,4 @@ pub mod ShownLemmas
 pub mod WriteRuns
 pub mod UpdateLemmas
 pub mod PlacedCells
+pub mod CopyLemmas

@@ -107,6 +107,14 @@ run_at laws t n p j ok reach h row =
 pub run_inside : (t : Triple) (n p j : ℕ) → Runs t n p j → IsInside n (pos (place_at t p) +ℤ get_or t.incs 0 (pos 0) *ℤ pos j)
 run_inside t n p j r = subst (λ z. IsInside n z) (sym r.is) (record { place = record { low = omega (arith, ints); high = omega (arith, ints, r.small) }; high = omega (arith, ints, r.below) })
 
+-- where a step along a row goes to the next place, so many on in the row are so many places on
+pub beside_in_row : PositionLaws → (t : Triple) (p j width : ℕ) → IsTriple t → p + j < size_of t.dims → width ≡ get_or t.dims 0 1 → p % width + j < width → get_or t.incs 0 (pos 0) ≡ pos 1
+    → place_at t (p + j) ≡ place_at t p + j
+beside_in_row laws t p j width ok h wide row one =
+    let r : Runs t 1048576 p j = run_at laws t 1048576 p j ok (λ cs w. (ok.reachable cs w).high) h (subst (λ (w : ℕ). p % w + j < w) wide row) in
+    let next : pos (place_at t p) +ℤ pos 1 *ℤ pos j ≡ pos (place_at t (p + j)) = subst (λ (z : ℤ). pos (place_at t p) +ℤ z *ℤ pos j ≡ pos (place_at t (p + j))) one r.is in
+    omega (arith, ints, next)
+
 -- ---- whole rows
 
 -- so many rows on in the same plane

@@ -5,6 +5,7 @@
 #![tactic(auto)]
 
 mod across;
+mod copies;
 mod laws;
 mod numbers;
 mod packed;
@@ -13,6 +14,7 @@ mod prefixes;
 mod ranges;
 mod reads;
 mod routes;
+mod runs;
 mod sums;
 mod updates;
 mod values;
@@ -23,4 +25,5 @@ pub use numbers::{Numbers, numbers_of};
 pub use placement::Placement;
 pub use prefixes::Folding;
 pub use routes::Route;
+pub use runs::Run;
 pub use updates::Update;

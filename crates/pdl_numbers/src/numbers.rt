@@ -17,6 +17,7 @@ ghost use Rattle.pdl_numbers.specs.Updates.{ShowsOnce, Suits, updated};
 ghost use Rattle.pdl_numbers.specs.Writes.{onward, placed_from};
 
 use crate::across::read_across;
+use crate::copies::copy_shown;
 use crate::packed::{AtByte, AtLong, AtLonglong, AtSbyte, AtShort, AtUlong, AtUshort, Packed};
 use crate::placement::Placement;
 use crate::prefixes::Folding;
@@ -27,6 +28,7 @@ use crate::values::extend_values;
 use crate::writes::{write_block, write_onward};
 use pdl_elem::{BinaryOp, Ty};
 use std::alloc::{AllocError, Global};
+use std::mem::replace;
 
 /// So many numbers are copied at once.
 const BLOCK: usize = 512;
@@ -412,6 +414,50 @@ impl Numbers {
             Numbers::Longs(packed) => update_shown(packed, update, placement),
             Numbers::Ulongs(packed) => update_shown(packed, update, placement),
             Numbers::Longlongs(packed) => update_shown(packed, update, placement),
+        }
+    }
+
+    /// Takes the numbers out, and leaves none, of the same type. It takes no memory.
+    pub fn take(&mut self) -> Numbers
+        ensures taken { elements_in result ≡ elements_in self.old }
+        ensures left { elements_in self.new ≡ record (elements_in self.old) { elems = [] } }
+    {
+        let none = match self {
+            Numbers::Sbytes(packed) => Numbers::Sbytes(packed.none()),
+            Numbers::Bytes(packed) => Numbers::Bytes(packed.none()),
+            Numbers::Shorts(packed) => Numbers::Shorts(packed.none()),
+            Numbers::Ushorts(packed) => Numbers::Ushorts(packed.none()),
+            Numbers::Longs(packed) => Numbers::Longs(packed.none()),
+            Numbers::Ulongs(packed) => Numbers::Ulongs(packed.none()),
+            Numbers::Longlongs(packed) => Numbers::Longlongs(packed.none()),
+        };
+        replace(self, none)
+    }
+
+    /// Sets the numbers that a placement shows to those that another placement of the same
+    /// dimensions shows of others of the type, in order of position. They are copied in their own
+    /// width.
+    pub fn copy_shown(&mut self, to: &Placement, from: &Numbers, shown: &Placement)
+        requires same_type { (elements_in from.now).ty ≡ (elements_in self.old).ty }
+        requires same_dims { to.now.dims ≡ shown.now.dims }
+        requires reaches { Reaches to.now (length (elements_in self.old).elems) }
+        requires from_reaches { Reaches shown.now (length (elements_in from.now).elems) }
+        ensures { let old = elements_in self.old in
+            let values = shown_through shown.now (elements_in from.now).elems in
+            let places = placed_from to.now 0 (size_of to.now.dims) in
+            elements_in self.new ≡ record old { elems = write places values old.elems } }
+    {
+        match (self, from) {
+            (Numbers::Sbytes(into), Numbers::Sbytes(from)) => copy_shown(into, to, from, shown),
+            (Numbers::Bytes(into), Numbers::Bytes(from)) => copy_shown(into, to, from, shown),
+            (Numbers::Shorts(into), Numbers::Shorts(from)) => copy_shown(into, to, from, shown),
+            (Numbers::Ushorts(into), Numbers::Ushorts(from)) => copy_shown(into, to, from, shown),
+            (Numbers::Longs(into), Numbers::Longs(from)) => copy_shown(into, to, from, shown),
+            (Numbers::Ulongs(into), Numbers::Ulongs(from)) => copy_shown(into, to, from, shown),
+            (Numbers::Longlongs(into), Numbers::Longlongs(from)) => {
+                copy_shown(into, to, from, shown)
+            }
+            _ => {}
         }
     }
 

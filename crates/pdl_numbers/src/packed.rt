@@ -18,12 +18,15 @@ ghost use Rattle.pdl_numbers.specs.Shown.{shown_through};
 ghost use Rattle.pdl_numbers.specs.Bytes.{ArePacked, IsPacked, bytes_of, number_of};
 
 use crate::placement::{Placement, place_after};
-use crate::prefixes::{Folding, pack_prefixes};
+use crate::prefixes::{Folding, pack_prefixes, update_prefixes};
 use crate::routes::Route;
 use pdl_elem::{KnownOp, Ty, apply, block_laws, wrap, wrapping_laws};
 use pdl_shape::shape_laws;
 use std::alloc::{AllocError, Global};
 use std::marker::{Model, PhantomData};
+
+/// So many numbers are fetched at once.
+const BLOCK: usize = 1024;
 
 /// A type whose numbers are kept in `N` bytes each.
 pub trait PackedType<const N: usize> {
@@ -195,8 +198,8 @@ impl PackedType<8> for AtLonglong {
 /// A list of numbers of the type `T`, each kept as its bytes.
 #[derive(Debug, Drop)]
 pub struct Packed<T: PackedType<N>, const N: usize> {
-    cells: Vec<[u8; N]>,
-    ty: PhantomData<T>,
+    pub(crate) cells: Vec<[u8; N]>,
+    pub(crate) ty: PhantomData<T>,
 }
 
 impl<T: PackedType<N>, const N: usize> Model for Packed<T, N> {
@@ -295,6 +298,26 @@ fn update_all<O: KnownOp, T: PackedType<N>, const N: usize>(number: i64, cells: 
 {
     for cell in cells {
         update_cell::<O, T, N>(number, cell);
+    }
+}
+
+/// The number in each cell becomes an operator's value on it and the number in the other cell that
+/// stands for it.
+fn update_each<O: KnownOp, T: PackedType<N>, const N: usize>(
+    right: &[[u8; N]],
+    cells: &mut [[u8; N]],
+)
+    requires paired { length right.now ≡ length cells.old }
+    requires divisors { IsTrue (divides O.op) →
+        All (λ y. y ≢ pos 0) (map (number_of T.ty) right.now) }
+    ensures { let number = number_of T.ty in
+        let values = pairwise (value_of O.op T.ty) (map number cells.old) (map number right.now) in
+        cells.new ≡ map (bytes_of T.ty) values }
+{
+    wrapping_laws();
+    block_laws();
+    for (i, cell) in right.iter().enumerate() {
+        cells[i] = packed_value::<O, T, N>(T::unpack(&cells[i]), T::unpack(cell));
     }
 }
 
@@ -427,6 +450,25 @@ fn pack_by<R: Route, T: PackedType<N>, const N: usize>(
     }
 }
 
+/// Sets the cells at the places to the bytes of the values, in order. A value without a place among
+/// these is dropped.
+fn pack_at<T: PackedType<N>, const N: usize>(
+    places: &[Option<u32>],
+    values: &[i64],
+    cells: &mut [[u8; N]],
+)
+    requires paired { length values.now ≡ length places.now }
+    requires in_range { All (InRange T.ty) values.now }
+    requires packed { ArePacked T.ty cells.old }
+    ensures packed { ArePacked T.ty cells.new }
+    ensures value { map (number_of T.ty) cells.new
+        ≡ write places.now values.now (map (number_of T.ty) cells.old) }
+{
+    for (i, place) in places.iter().enumerate() {
+        put_cell::<T, N>(*place, &T::pack(values[i]), cells);
+    }
+}
+
 impl<T: PackedType<N>, const N: usize> Packed<T, N> {
     /// The cells in which the numbers stand, in order. A loop over them looks up once where they
     /// are.
@@ -486,6 +528,30 @@ impl<T: PackedType<N>, const N: usize> Packed<T, N> {
         Ok(())
     }
 
+    /// Puts an operator's values on the numbers in each two cells after the others. The cells on the
+    /// left are copied there and changed where they stand: that takes less than to fill the room
+    /// with zeros first.
+    pub(crate) fn extend_values_of<O: KnownOp>(
+        &mut self,
+        left: &[[u8; N]],
+        right: &[[u8; N]],
+    ) -> Result<(), AllocError>
+        requires paired { length left.now ≡ length right.now }
+        requires divisors { IsTrue (divides O.op) →
+            All (λ y. y ≢ pos 0) (map (number_of T.ty) right.now) }
+        ensures ok { let number = number_of T.ty in
+            let f = value_of O.op T.ty in
+            let values = pairwise f (map number left.now) (map number right.now) in
+            OnOk result (self.new ≡ self.old ++ values) }
+        ensures err { OnErr result (self.new ≡ self.old) }
+    {
+        block_laws();
+        let start = self.cells.len();
+        self.cells.extend_from_slice(left)?;
+        update_each::<O, T, N>(right, &mut self.cells[start..]);
+        Ok(())
+    }
+
     /// Puts what numbers come to up to each of them, from a start on, wrapped to the type, after
     /// the others. It answers what all come to.
     pub(crate) fn extend_prefixes<F: Folding>(
@@ -503,6 +569,46 @@ impl<T: PackedType<N>, const N: usize> Packed<T, N> {
         self.cells.resize(first + numbers.len(), [0; N])?;
         let end = pack_prefixes::<F, T, N>(start, numbers, &mut self.cells[first..]);
         Ok(end)
+    }
+
+    /// Puts what the numbers in cells come to up to each of them, from a start on, wrapped to the
+    /// type, after the others. It answers what all come to.
+    pub(crate) fn extend_prefixes_of<F: Folding>(
+        &mut self,
+        start: i64,
+        cells: &[[u8; N]],
+    ) -> Result<i64, AllocError>
+        ensures value { let numbers = map (number_of T.ty) cells.now in
+            IfOk result (λ end. end ≡ fold F.taken start numbers) }
+        ensures ok { let numbers = map (number_of T.ty) cells.now in
+            let new = wrapped_prefixes T.ty F.taken start numbers in
+            OnOk result (self.new ≡ self.old ++ new) }
+        ensures err { OnErr result (self.new ≡ self.old) }
+    {
+        wrapping_laws();
+        let first = self.cells.len();
+        self.cells.extend_from_slice(cells)?;
+        let end = update_prefixes::<F, T, N>(start, &mut self.cells[first..]);
+        Ok(end)
+    }
+
+    /// Puts the numbers in packed cells after the others. The cells are copied.
+    pub(crate) fn extend_cells(&mut self, cells: &[[u8; N]]) -> Result<(), AllocError>
+        requires { ArePacked T.ty cells.now }
+        ensures ok { OnOk result (self.new ≡ self.old ++ map (number_of T.ty) cells.now) }
+        ensures err { OnErr result (self.new ≡ self.old) }
+    {
+        self.cells.extend_from_slice(cells)
+    }
+
+    /// The cells in which so many numbers stand from a place on, of which there are enough.
+    pub(crate) fn part(&self, start: usize, count: usize) -> &[[u8; N]]
+        requires { start + count ≤ length self.now }
+        ensures value { map (number_of T.ty) result.now ≡ take count (drop start self.now) }
+        ensures packed { ArePacked T.ty result.now }
+    {
+        let _count = self.len();
+        &self.cells[start..start + count]
     }
 
     /// Sets `into` to the numbers from a place on, of which there are enough.
@@ -650,9 +756,7 @@ impl<T: PackedType<N>, const N: usize> Packed<T, N> {
         requires in_range { All (InRange T.ty) values.now }
         ensures { self.new ≡ write places.now values.now self.old }
     {
-        for (i, place) in places.iter().enumerate() {
-            self.put(*place, values[i]);
-        }
+        pack_at::<T, N>(places, values, self.cells.as_mut_slice());
     }
 
     /// Sets the numbers at the places to those of others of the type, in order. A number without a
@@ -676,7 +780,24 @@ impl<T: PackedType<N>, const N: usize> Packed<T, N> {
         pack_by::<R, T, N>(route, values, self.cells.as_mut_slice());
     }
 
-    /// The numbers at the places, with 0 where there is none among these.
+    /// Puts the numbers at the places of others after these, with 0 where there is none among those.
+    fn extend_gathered(
+        &mut self,
+        from: &Packed<T, N>,
+        places: &[Option<u32>],
+    ) -> Result<(), AllocError>
+        ensures ok { OnOk result (self.new ≡ self.old ++ read places.now from.now) }
+        ensures err { OnErr result (self.new ≡ self.old) }
+    {
+        wrapping_laws();
+        let start = self.cells.len();
+        self.cells.resize(start + places.len(), T::pack(0))?;
+        gather_cells::<T, N>(from.cells.as_slice(), places, &mut self.cells[start..]);
+        Ok(())
+    }
+
+    /// The numbers at the places, with 0 where there is none among these. They are fetched in
+    /// blocks: the cells of one are still in the cache when the numbers come into them.
     pub(crate) fn gathered(
         &self,
         alloc: Global,
@@ -684,14 +805,14 @@ impl<T: PackedType<N>, const N: usize> Packed<T, N> {
     ) -> Result<Packed<T, N>, AllocError>
         ensures { IfOk result (λ packed. packed ≡ read places.now self.now) }
     {
-        wrapping_laws();
-        let mut cells = Vec::with_capacity(alloc, places.len())?;
-        cells.resize(places.len(), T::pack(0))?;
-        gather_cells::<T, N>(self.cells.as_slice(), places, cells.as_mut_slice());
-        Ok(Packed {
-            cells,
-            ty: PhantomData,
-        })
+        let mut packed = Packed::with_room(alloc, places.len())?;
+        let mut done = 0;
+        while done < places.len() {
+            let size = BLOCK.min(places.len() - done);
+            packed.extend_gathered(self, &places[done..done + size])?;
+            done += size;
+        }
+        Ok(packed)
     }
 
     /// The bytes of each number in turn.

@@ -1,7 +1,7 @@
 //! What numbers come to up to each of them, wrapped to a type and packed as it is found.
 ghost use Rattle.std.specs.Prelude.{◌≡◌, ℤ, length, map, fold};
 ghost use Rattle.pdl_elem.specs.Numbers.{wrapped};
-ghost use Rattle.pdl_numbers.specs.Bytes.{bytes_of};
+ghost use Rattle.pdl_numbers.specs.Bytes.{bytes_of, number_of};
 ghost use Rattle.pdl_numbers.specs.Prefixes.{wrapped_prefixes};
 
 use crate::packed::PackedType;
@@ -39,6 +39,24 @@ pub(crate) fn pack_prefixes<F: Folding, T: PackedType<N>, const N: usize>(
     for (i, number) in numbers.iter().enumerate() {
         so_far = F::take(so_far, *number);
         cells[i] = packed_wrapped::<T, N>(so_far);
+    }
+    so_far
+}
+
+/// The number in each cell becomes what the numbers up to it come to, from a start on, wrapped to the
+/// type. It answers what all come to.
+pub(crate) fn update_prefixes<F: Folding, T: PackedType<N>, const N: usize>(
+    start: i64,
+    cells: &mut [[u8; N]],
+) -> i64
+    ensures value { result ≡ fold F.taken start (map (number_of T.ty) cells.old) }
+    ensures packed { let numbers = map (number_of T.ty) cells.old in
+        cells.new ≡ map (bytes_of T.ty) (wrapped_prefixes T.ty F.taken start numbers) }
+{
+    let mut so_far = start;
+    for place in 0..cells.len() {
+        so_far = F::take(so_far, T::unpack(&cells[place]));
+        cells[place] = packed_wrapped::<T, N>(so_far);
     }
     so_far
 }

@@ -4,6 +4,7 @@ ghost use Rattle.pdl_elem.specs.Types.{InRange};
 ghost use Rattle.pdl_numbers.specs.Numbers.{elements_in};
 
 use crate::numbers::Numbers;
+use crate::runs::Run;
 
 impl Numbers {
     /// All of them are in the type's range. It does nothing: who calls it knows that.
@@ -19,5 +20,14 @@ impl Numbers {
             Numbers::Ulongs(packed) => packed.are_in_range(),
             Numbers::Longlongs(packed) => packed.are_in_range(),
         }
+    }
+}
+
+impl<'a> Run<'a> {
+    /// All of them are in the type's range. It does nothing: who calls it knows that.
+    pub fn are_in_range(&self)
+        ensures { All (InRange self.now.ty) self.now.elems }
+    {
+        self.numbers.are_in_range();
     }
 }

@@ -1,6 +1,6 @@
 -- Lists that are made from others number by number.
 use Rattle.std.proofs.Common.{◌≡◌, ℕ, suc, ◌+◌, ◌<◌, ◌≤◌, ℤ, pos, List, [], ◌∷◌, ◌++◌, length, set, take, drop, map, All, arith, refl, ap, ap₂, sym, ◌∙◌}
-use Rattle.std.proofs.lemmas.List.{ext_get_or, get_or-drop, get_or-take, length-drop, length-take-le, take_more, take_more_set, take_all}
+use Rattle.std.proofs.lemmas.List.{ext_get_or, get_or-drop, get_or-take, length-drop, length-take-le, take_more, take_more_set, take_all, take-map}
 use Rattle.std.proofs.lemmas.List.FromFn.{length-map-range_with_len, get_or-map-range_with_len}
 use Rattle.std.specs.List.{range_with_len}
 use Rattle.pdl_elem.specs.declared.Ty.{Ty}
@@ -13,6 +13,12 @@ use Rattle.pdl_elem.specs.Types.{InRange}
 pub wrapped_stay : WrappingLaws → (t : Ty) (xs : List ℤ) → All (InRange t) xs → map (wrapped t) xs ≡ xs
 wrapped_stay laws t [] h = refl
 wrapped_stay laws t (x ∷ xs) h = ap₂ (λ (y : ℤ) (ys : List ℤ). y ∷ ys) (laws.same t x (h 0 x (omega arith))) (wrapped_stay laws t xs (λ k d below. h (suc k) d (omega arith)))
+
+-- and so are the first of them
+pub wrapped_first : WrappingLaws → (t : Ty) (xs : List ℤ) (k : ℕ) → All (InRange t) xs → map (wrapped t) (take k xs) ≡ take k xs
+wrapped_first laws t xs k h =
+    let cut : map (wrapped t) (take k xs) ≡ take k (map (wrapped t) xs) = simp take-map in
+    cut ∙ ap (take k) (wrapped_stay laws t xs h)
 
 -- what is made of two lists, one after the other
 pub pairwise_append : (f : ℤ → ℤ → ℤ) (xs ys us vs : List ℤ) → length xs ≡ length ys → pairwise f (xs ++ us) (ys ++ vs) ≡ pairwise f xs ys ++ pairwise f us vs

@@ -25,7 +25,7 @@ use Rattle.pdl_ops.proofs.ElementwiseResults.{result_at, stretched_length}
 
 -- ---- forms
 
-no_zero : (op : BinaryOp) (ys : List ℤ) → divides op ≡ false → zero_at op ys ≡ None
+pub no_zero : (op : BinaryOp) (ys : List ℤ) → divides op ≡ false → zero_at op ys ≡ None
 no_zero op ys h = ap (λ (b : Bool). if b then position (λ z. int_eq z (pos 0)) ys else None) h
 
 -- what is made of operands whose dimensions join is undivided, and has this form

@@ -1,5 +1,5 @@
 -- Lists that are made in blocks.
-use Rattle.std.proofs.Common.{◌≡◌, ℕ, ◌+◌, ◌≤◌, ℤ, List, [], ◌++◌, length, take, drop, map, All, Result, arith, Some, None, Ok, Err, is_ok, true, refl, ap, ap₂, sym, subst, ◌∙◌, take-append-drop}
+use Rattle.std.proofs.Common.{◌≡◌, ℕ, ◌+◌, ◌≤◌, ℤ, List, [], ◌++◌, length, take, drop, map, All, Option, Result, arith, Some, None, Ok, Err, is_ok, true, refl, ap, ap₂, sym, subst, ◌∙◌, take-append-drop}
 use Rattle.std.proofs.lemmas.List.{take-map, drop-map, take_all, length-take-le}
 use Rattle.std.proofs.lemmas.List.Elements.{All-append, All-nil}
 use Rattle.std.proofs.Math.Seq.{take-add}
@@ -42,18 +42,45 @@ pub record AreMade (op : BinaryOp) (ty : Ty) (xs ys : List ℤ) (k : ℕ) (made 
   pub no_zero : zero_at op (take k ys) ≡ None
   pub in_range : All (InRange (binary_result op ty ty)) made
 
+-- the values of one part more of two lists
+pub values_more : (f : ℤ → ℤ → ℤ) (xs ys made next : List ℤ) (k n : ℕ) → length xs ≡ length ys → k ≤ length ys → made ≡ pairwise f (take k xs) (take k ys)
+    → next ≡ made ++ pairwise f (take n (drop k xs)) (take n (drop k ys)) → next ≡ pairwise f (take (k + n) xs) (take (k + n) ys)
+values_more f xs ys made next k n l h m whole =
+    let same : length (take k xs) ≡ length (take k ys) = length-take-le k xs (omega arith) ∙ sym (length-take-le k ys h) in
+    whole ∙ ap (λ (us : List ℤ). us ++ pairwise f (take n (drop k xs)) (take n (drop k ys))) m
+    ∙ sym (pairwise_append f (take k xs) (take k ys) (take n (drop k xs)) (take n (drop k ys)) same)
+    ∙ ap₂ (pairwise f) (sym (take-add k n xs)) (sym (take-add k n ys))
+
 pub made_more : (op : BinaryOp) (ty : Ty) (xs ys made block next us vs : List ℤ) (k n : ℕ) → length xs ≡ length ys → k ≤ length ys → AreMade op ty xs ys k made
     → us ≡ take n (drop k xs) → vs ≡ take n (drop k ys) → block ≡ pairwise (value_of op ty) us vs → zero_at op vs ≡ None
     → All (InRange (binary_result op ty ty)) block → next ≡ made ++ block → AreMade op ty xs ys (k + n) next
 made_more op ty xs ys made block next us vs k n l h m e f v z a whole =
-    let same : length (take k xs) ≡ length (take k ys) = length-take-le k xs (omega arith) ∙ sym (length-take-le k ys h) in
     record {
-      made_is = whole ∙ ap₂ (λ (us vs : List ℤ). us ++ vs) m.made_is (v ∙ ap₂ (pairwise (value_of op ty)) e f)
-          ∙ sym (pairwise_append (value_of op ty) (take k xs) (take k ys) (take n (drop k xs)) (take n (drop k ys)) same)
-          ∙ ap₂ (pairwise (value_of op ty)) (sym (take-add k n xs)) (sym (take-add k n ys));
+      made_is = values_more (value_of op ty) xs ys made next k n l h m.made_is (whole ∙ ap (λ (vs : List ℤ). made ++ vs) (v ∙ ap₂ (pairwise (value_of op ty)) e f));
       no_zero = ap (zero_at op) (take-add k n ys) ∙ zero_none op (take k ys) (take n (drop k ys)) m.no_zero (ap (zero_at op) (sym f) ∙ z);
       in_range = subst (All (InRange (binary_result op ty ty))) (sym whole) (All-append (InRange (binary_result op ty ty)) made block m.in_range a);
     }
+
+-- what values there are
+values_none : (op : BinaryOp) (ty : Ty) (us vs made : List ℤ) (zero : Option ℕ) → values_at op ty us vs zero ≡ Ok made → zero ≡ None
+values_none op ty us vs made None e = refl
+values_none op ty us vs made (Some place) e = cc
+
+values_are : (op : BinaryOp) (ty : Ty) (us vs made : List ℤ) (zero : Option ℕ) → values_at op ty us vs zero ≡ Ok made → made ≡ pairwise (value_of op ty) us vs
+values_are op ty us vs made None e = cc
+values_are op ty us vs made (Some place) e = cc
+
+pub values_found : (op : BinaryOp) (ty : Ty) (us vs made : List ℤ) → values_of op ty us vs ≡ Ok made → made ≡ pairwise (value_of op ty) us vs
+values_found op ty us vs made e = values_are op ty us vs made (zero_at op vs) e
+
+-- the values of the first elements are found
+pub made_begun : (op : BinaryOp) (ty : Ty) (xs ys us vs : List ℤ) (k : ℕ) {made : List ℤ} → us ≡ take k xs → vs ≡ take k ys
+    → All (InRange (binary_result op ty ty)) (pairwise (value_of op ty) us vs) → values_of op ty us vs ≡ Ok made → AreMade op ty xs ys k made
+made_begun op ty xs ys us vs k {made} e f h is = record {
+  made_is = values_found op ty us vs made is ∙ ap₂ (pairwise (value_of op ty)) e f;
+  no_zero = ap (zero_at op) (sym f) ∙ values_none op ty us vs made (zero_at op vs) is;
+  in_range = subst (All (InRange (binary_result op ty ty))) (sym (values_found op ty us vs made is)) h;
+}
 
 pub made_all : (op : BinaryOp) (ty : Ty) (xs ys made : List ℤ) (k : ℕ) → length xs ≡ length ys → length ys ≤ k → AreMade op ty xs ys k made → values_of op ty xs ys ≡ Ok made
 made_all op ty xs ys made k l h m =

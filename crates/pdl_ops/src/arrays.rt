@@ -8,7 +8,7 @@ ghost use Rattle.pdl_ops.specs.Elementwise.{converted, elementwise, of_alike, un
 
 use crate::OpFault;
 use crate::blocks::values;
-use crate::changes::{Change, changed_elements};
+use crate::changes::{Change, changed_elements, converted_elements};
 use pdl_buf::{
     Elements, Made, Packing, Strided, stretched, strided_dims, strided_is_in_range, strided_type,
 };
@@ -80,7 +80,7 @@ pub fn unary_each(alloc: Global, op: UnaryOp, a: &Strided<'_>) -> Result<Made, A
 {
     let ty = unary_type(op, strided_type(a));
     let empty = Packing::new(alloc, ty, elements_of(strided_dims(a)) as usize)?;
-    let elems = changed_elements(alloc, Change::Operator(op), a, empty)?;
+    let elems = changed_elements(alloc, Change::Operator(op), a, empty, 0)?;
     Ok(Made {
         ty,
         dims: copy_dims(strided_dims(a)),
@@ -94,7 +94,7 @@ pub fn convert(alloc: Global, ty: Ty, a: &Strided<'_>) -> Result<Made, AllocErro
     ensures made { IfOk result (λ made. IsMade made.ty made.dims made.elems) }
 {
     let empty = Packing::new(alloc, ty, elements_of(strided_dims(a)) as usize)?;
-    let elems = changed_elements(alloc, Change::Convert(ty), a, empty)?;
+    let elems = converted_elements(alloc, ty, a, empty)?;
     Ok(Made {
         ty,
         dims: copy_dims(strided_dims(a)),

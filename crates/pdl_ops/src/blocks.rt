@@ -1,5 +1,5 @@
 //! An operator on two windows of as many elements, in blocks.
-ghost use Rattle.std.specs.Prelude.{◌≡◌, ◌≢◌, ◌+◌, ◌++◌, ◌*◌, ◌<◌, ◌≤◌, pos, [], length, map, None, All, IsTrue, IfOk, IfSome, OnOk};
+ghost use Rattle.std.specs.Prelude.{◌≡◌, ◌≢◌, ◌+◌, ◌++◌, ◌*◌, ◌<◌, ◌≤◌, pos, [], length, map, Ok, None, All, IsTrue, IfOk, IfSome, OnOk};
 ghost use Rattle.pdl_elem.specs.Blocks.{pairwise, zero_at};
 ghost use Rattle.pdl_elem.specs.Numbers.{wrapped};
 ghost use Rattle.pdl_elem.specs.Operators.{divides, value_of};
@@ -9,6 +9,7 @@ ghost use Rattle.pdl_ops.specs.Elementwise.{operands_from, values_of};
 
 use crate::OpFault;
 use crate::operands::{block_of, read_operand};
+use crate::runs::begin_values;
 use pdl_buf::{Packing, Strided, strided_dims};
 use pdl_elem::{BinaryOp, Ty, apply_all, binary_type, first_refused, operator_laws};
 use pdl_shape::elements_of;
@@ -87,15 +88,16 @@ fn put_block(
 }
 
 /// The operator's values at the type on the elements of two windows of as many elements, each
-/// wrapped to the type. They are put into a packing of the type that they have, which is empty. It
-/// answers `DivideByZero` and `NoMemory` alone.
+/// wrapped to the type. They are put into a packing of the type that they have, which is empty:
+/// run by run where that goes, and the others in blocks. It answers `DivideByZero` and `NoMemory`
+/// alone.
 pub(crate) fn values(
     alloc: Global,
     op: BinaryOp,
     ty: Ty,
     a: &Strided<'_>,
     b: &Strided<'_>,
-    made: Packing,
+    mut made: Packing,
 ) -> Result<Packing, OpFault>
     requires paired { length a.now.elems ≡ length b.now.elems }
     requires empty { made ≡ record { ty = binary_result op ty ty; elems = [] } }
@@ -107,28 +109,34 @@ pub(crate) fn values(
 {
     let count = elements_of(strided_dims(b)) as usize;
     if count <= FEW {
-        values_within(op, ty, a, b, made, FEW, &mut [0; 3 * FEW])
+        values_within(op, ty, a, b, made, 0, FEW, &mut [0; 3 * FEW])
     } else {
-        let block = count.min(block_of(a).max(block_of(b)));
+        let begun = begin_values(op, ty, a, b, &mut made)?;
+        let block = (count - begun).min(block_of(a).max(block_of(b)));
         let mut room = vec![in alloc; 0; 3 * block]?;
-        values_within(op, ty, a, b, made, block, &mut room)
+        values_within(op, ty, a, b, made, begun, block, &mut room)
     }
 }
 
-/// What `values` answers, found in blocks of so many at most, in a room for the operands and the
-/// values of one.
+/// What `values` answers, where so many values are put already: the others are found in blocks of
+/// so many at most, in a room for the operands and the values of one.
 fn values_within(
     op: BinaryOp,
     ty: Ty,
     a: &Strided<'_>,
     b: &Strided<'_>,
     mut made: Packing,
+    begun: usize,
     block: usize,
     room: &mut [i64],
 ) -> Result<Packing, OpFault>
     requires paired { length a.now.elems ≡ length b.now.elems }
-    requires empty { made ≡ record { ty = binary_result op ty ty; elems = [] } }
-    requires some { 0 < block }
+    requires within { begun ≤ length b.now.elems }
+    requires typed { made.ty ≡ binary_result op ty ty }
+    requires begun { let xs = operands_from ty 0 begun a.now.elems in
+        let ys = operands_from ty 0 begun b.now.elems in
+        values_of op ty xs ys ≡ Ok made.elems }
+    requires some { begun < length b.now.elems → 0 < block }
     requires room { 3 * block ≤ length room.old }
     ensures value { let xs = map (wrapped ty) a.now.elems in
         let ys = map (wrapped ty) b.now.elems in
@@ -138,7 +146,7 @@ fn values_within(
 {
     operator_laws();
     let count = elements_of(strided_dims(b)) as usize;
-    let mut done = 0;
+    let mut done = begun;
     while done < count {
         let size = (count - done).min(block);
         let found = put_block(

@@ -38,7 +38,7 @@ pub fn stretches(source: &Dims, target: &Dims) -> bool
 }
 
 /// Whether the operator divides.
-fn divides(op: BinaryOp) -> bool
+pub(crate) fn divides(op: BinaryOp) -> bool
     ensures { result ≡ divides op }
 {
     matches!(op, BinaryOp::Div | BinaryOp::Rem)

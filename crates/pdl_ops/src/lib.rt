@@ -12,6 +12,7 @@ mod fills;
 mod in_parts;
 mod laws;
 mod operands;
+mod runs;
 mod values;
 
 pub use arrays::{convert, copied, elementwise, unary_each};

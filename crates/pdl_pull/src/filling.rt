@@ -16,7 +16,7 @@ use std::alloc::Global;
 use std::sync::ledger::Ledger;
 
 /// The root's places of a view that is its own base and has a fresh parent.
-fn find_places(table: &Table, alloc: Global, id: u64) -> Result<Places, NoMemory>
+pub(crate) fn find_places(table: &Table, alloc: Global, id: u64) -> Result<Places, NoMemory>
     requires order { InOrder table.now }
     requires known { AreKnown table.now }
     requires live { has table.now id ≡ true }

@@ -4,7 +4,9 @@
 
 mod bit_set;
 mod filling;
+mod finding;
 mod gathering;
 mod refreshing;
 
+pub use finding::find;
 pub use refreshing::{is_fresh, refresh};

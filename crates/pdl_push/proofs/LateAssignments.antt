@@ -15,7 +15,7 @@ use Rattle.pdl_nodes.specs.declared.node.Goal.TheVariants.{Root, Base}
 use Rattle.pdl_nodes.specs.declared.node.Shown.{Shown}
 use Rattle.pdl_nodes.specs.Worlds.{places_seen, latest, world_of, IsRoot}
 use Rattle.pdl_push.specs.Late.{settle, await}
-use Rattle.pdl_push.specs.Targets.{MarksTarget, target, IsAssigned, WaitsTarget}
+use Rattle.pdl_push.specs.Targets.{MarksAlone, target, IsAssigned, IsAssignedAt, WaitsTarget}
 use Rattle.pdl_push.proofs.LateAtBase.{IsThrough, await_quiet, awaited, world_awaited}
 use Rattle.pdl_push.proofs.LateAtRoot.{settle_quiet, rooted, world_rooted}
 use Rattle.pdl_push.proofs.RowsKnown.{known_each, kept_by}
@@ -28,17 +28,20 @@ marks_only true true y m h g = g refl refl
 marks_only true false y m h g = absurd (cc)
 marks_only false x y m h g = h
 
--- the target alone is marked in its family
-target_marks : (facts : RowLaws) → (rs new : Rows) (f : ℕ → Row → Row) (rt b v : ℕ) → (row_at rs v).root ≡ rt → target rs v ≡ b → new ≡ each f rs → ((k : ℕ) (r : Row) → (f k r).mark ≡ cond (eqb r.root rt) (cond (eqb k b) true (cond false (eqb k rt) false)) r.mark) → MarksTarget rs v new
-target_marks facts rs new f rt b v e t n m u h =
+-- one alone is marked in its family
+alone_marks : (facts : RowLaws) → (rs new : Rows) (f : ℕ → Row → Row) (rt b v : ℕ) → (row_at rs v).root ≡ rt → new ≡ each f rs → ((k : ℕ) (r : Row) → (f k r).mark ≡ cond (eqb r.root rt) (cond (eqb k b) true (cond false (eqb k rt) false)) r.mark) → MarksAlone b rs v new
+alone_marks facts rs new f rt b v e n m u h =
     ap (λ x. (row_at x u).mark) n ∙ ap (λ r. r.mark) (facts.numbers.each_at f rs u h) ∙ m u (row_at rs u)
     ∙ ap (λ x. cond (eqb (row_at rs u).root rt) x (row_at rs u).mark) (as_it_is (eqb u b))
     ∙ ap (λ x. cond (eqb (row_at rs u).root x) (eqb u b) (row_at rs u).mark) (sym e)
-    ∙ ap (λ x. cond (eqb (row_at rs u).root (row_at rs v).root) (eqb u x) (row_at rs u).mark) (sym t)
+
+-- the target is the one
+pub by_target : (rs new : Rows) (b v first : ℕ) (vs : List ℤ) → target rs v ≡ b → IsAssignedAt b rs v first vs new → IsAssigned rs v first vs new
+by_target rs new b v first vs t a = subst (λ (x : ℕ). IsAssignedAt x rs v first vs new) (sym t) a
 
 -- values that are written into the root where nothing waits are assigned
-pub assigned_root : (facts : RowLaws) → (rs new : Rows) (rt v first : ℕ) (vs : List ℤ) → InOrder rs → AreKnown rs → has rs v ≡ true → (row_at rs v).root ≡ rt → target rs v ≡ rt → new ≡ each (settle rt (write (drop first (places_seen rs v)) vs (latest rs rt)) rt false) rs → IsAssigned rs v first vs new
-assigned_root facts rs new rt v first vs o a h e t n =
+pub assigned_root : (facts : RowLaws) → (rs new : Rows) (rt v first : ℕ) (vs : List ℤ) → InOrder rs → AreKnown rs → has rs v ≡ true → (row_at rs v).root ≡ rt → new ≡ each (settle rt (write (drop first (places_seen rs v)) vs (latest rs rt)) rt false) rs → IsAssignedAt rt rs v first vs new
+assigned_root facts rs new rt v first vs o a h e n =
     let i : IsRoot rs rt = facts.seen.root_live rs rt v o.still h e in
     let es : List ℤ = write (drop first (places_seen rs v)) vs (latest rs rt) in
     record {
@@ -48,12 +51,12 @@ assigned_root facts rs new rt v first vs o a h e t n =
           (λ k y. kept_by rs rt k es (facts.seen.root_own rs rt o.still i) y) a);
       world = ap world_of n ∙ world_rooted facts rs rt v first vs o i h e;
       alike = subst (λ (x : Rows). IsAlike rs x) (sym n) (facts.quiet.is_alike (settle rt es rt false) rs (settle_quiet rt es rt false));
-      marks = target_marks facts rs new (settle rt es rt false) rt rt v e t n (λ k r. refl);
+      marks = alone_marks facts rs new (settle rt es rt false) rt rt v e n (λ k r. refl);
     }
 
 -- and so are those that wait in a base without repeats
-pub assigned_base : (facts : RowLaws) → (rs new : Rows) (rt b v first : ℕ) (vs : List ℤ) → IsThrough rs rt b v → AreKnown rs → (b ≡ rt → ⊥) → target rs v ≡ b → new ≡ each (await rt b (put_at Base rs v first vs)) rs → IsAssigned rs v first vs new
-assigned_base facts rs new rt b v first vs t a d g n =
+pub assigned_base : (facts : RowLaws) → (rs new : Rows) (rt b v first : ℕ) (vs : List ℤ) → IsThrough rs rt b v → AreKnown rs → (b ≡ rt → ⊥) → new ≡ each (await rt b (put_at Base rs v first vs)) rs → IsAssignedAt b rs v first vs new
+assigned_base facts rs new rt b v first vs t a d n =
     let ks : List ℤ = put_at Base rs v first vs in
     let own : (row_at rs b).base ≡ b = ap (λ x. (row_at rs x).base) (sym t.base_is) ∙ (facts.seen.is_seen rs t.order.still v t.live).base_base ∙ t.base_is in
     record {
@@ -63,7 +66,7 @@ assigned_base facts rs new rt b v first vs t a d g n =
           (λ k y. kept_by rs b k ks own y) a);
       world = ap world_of n ∙ world_awaited facts rs rt b v first vs t d;
       alike = subst (λ (x : Rows). IsAlike rs x) (sym n) (facts.quiet.is_alike (await rt b ks) rs (await_quiet rt b ks));
-      marks = target_marks facts rs new (await rt b ks) rt b v t.root_is g n (λ k r. refl);
+      marks = alone_marks facts rs new (await rt b ks) rt b v t.root_is n (λ k r. refl);
     }
 
 -- ---- by what was written
@@ -76,7 +79,7 @@ at_root facts rs new v first vs w t e =
     let settled : new ≡ each (settle (row_at rs v).root (write (drop first (places_seen rs v)) vs (latest rs (row_at rs v).root)) (row_at rs v).root false) rs =
     e ∙ rooted_all facts rs (row_at rs v).root _ w.order.still i nothing
     ∙ ap (λ es. each (settle (row_at rs v).root (write (drop first (places_seen rs v)) vs es) (row_at rs v).root false) rs) (sym (facts.seen.latest_none rs (row_at rs v).root nothing)) in
-    (assigned_root facts rs new (row_at rs v).root v first vs w.order w.known w.live refl t settled, waits_root facts rs new (row_at rs v).root v _ refl t settled)
+    (by_target rs new (row_at rs v).root v first vs t (assigned_root facts rs new (row_at rs v).root v first vs w.order w.known w.live refl settled), waits_root facts rs new (row_at rs v).root v _ refl t settled)
 
 -- values were put into the base, where they wait
 pub at_base : (facts : RowLaws) → (rs new : Rows) (v first : ℕ) (vs : List ℤ) → IsWrite rs v first vs → target rs v ≡ (row_at rs v).base → ((row_at rs v).base ≡ (row_at rs v).root → ⊥)
@@ -91,7 +94,7 @@ at_base facts rs new v first vs w t d e =
       marked = w.fresh;
       once = once_target rs v t d;
     } in
-    (assigned_base facts rs new (row_at rs v).root (row_at rs v).base v first vs through w.known d t e, waits_base facts rs new (row_at rs v).root (row_at rs v).base v _ refl t d e)
+    (by_target rs new (row_at rs v).base v first vs t (assigned_base facts rs new (row_at rs v).root (row_at rs v).base v first vs through w.known d e), waits_base facts rs new (row_at rs v).root (row_at rs v).base v _ refl t d e)
 
 -- what is shown of an array that can be lent: its root, and its base, which is marked
 pub record IsThere (rs : Rows) (at : Shown) : Type 0 where
@@ -109,3 +112,15 @@ there facts rs at first vs w h =
       root_is = ap (λ (x : Shown). (row_at rs x.base).root) h ∙ s.base_root ∙ ap (λ (x : Shown). x.root) (sym h);
       marked = ap (λ (x : Shown). (row_at rs x.base).mark) h ∙ w.fresh;
     }
+
+-- ---- at the root
+
+-- where the elements stand, by the number of the array
+pub shown_again : (t : Rows) (v : ℕ) (at : Shown) → at ≡ shown_of v (row_at t v) → at ≡ shown_of at.id (row_at t at.id)
+shown_again t v at e = e ∙ ap (λ x. shown_of x (row_at t x)) (sym (ap (λ (s : Shown). s.id) e))
+
+-- the rows once values were put at the root, which is marked alone
+pub written_there : (t put new : Rows) (v : ℕ) (at : Shown) (f : ℕ → ℕ → Row → Row) → at ≡ shown_of v (row_at t v) → put ≡ each (f at.id) t → new ≡ each (mark_in at.root at.root) put
+    → new ≡ each (mark_in (row_at t v).root (row_at t v).root) (each (f v) t)
+written_there t put new v at f e h n =
+    n ∙ ap (each (mark_in at.root at.root)) h ∙ ap (λ (s : Shown). each (mark_in s.root s.root) (each (f s.id) t)) e

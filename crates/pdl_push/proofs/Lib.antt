@@ -7,3 +7,4 @@ mod LateAssignments
 mod TargetLemmas
 mod LateGoings
 mod SettledAll
+mod ThroughPuts

@@ -3,7 +3,11 @@
 #![tactic(auto)]
 
 mod assigning;
+mod copying;
 mod settling;
+mod through;
 
 pub use assigning::{assign, replace, update};
+pub use copying::copy;
 pub use settling::{settle, settle_all, write_back};
+pub use through::assign_through;

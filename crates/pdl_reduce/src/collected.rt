@@ -7,7 +7,7 @@ ghost use Rattle.pdl_numbers.specs.Prefixes.{wrapped_prefixes};
 use crate::windows::BLOCK;
 use pdl_buf::Packing;
 use pdl_elem::Ty;
-use pdl_numbers::{Folding, Numbers};
+use pdl_numbers::{Folding, Numbers, Run};
 use std::alloc::{AllocError, Global};
 use std::marker::Model;
 
@@ -93,6 +93,30 @@ impl Collected {
     {
         pack_block(&mut self.packed, &mut self.block)?;
         self.packed.extend_prefixes::<F>(start, numbers)
+    }
+
+    /// Puts what the numbers of a run of the type come to up to each of them, from a start on,
+    /// wrapped to the type, after the others. They are read where they stand, and packed as they
+    /// are found. It answers what all come to.
+    pub(crate) fn extend_prefixes_of<F: Folding>(
+        &mut self,
+        start: i64,
+        run: &Run<'_>,
+    ) -> Result<i64, AllocError>
+        requires { run.now.ty ≡ self.old.ty }
+        ensures value { IfOk result (λ end. end ≡ fold F.taken start run.now.elems) }
+        ensures ok { let new = wrapped_prefixes self.old.ty F.taken start run.now.elems in
+            OnOk result (self.new ≡ record self.old { elems = self.old.elems ++ new }) }
+    {
+        pack_block(&mut self.packed, &mut self.block)?;
+        self.packed.extend_prefixes_of::<F>(start, run)
+    }
+
+    /// The type of the numbers.
+    pub(crate) fn ty(&self) -> Ty
+        ensures { result ≡ self.now.ty }
+    {
+        self.packed.ty()
     }
 
     /// The packing of all numbers, those of the last block too.

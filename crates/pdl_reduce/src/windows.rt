@@ -10,12 +10,15 @@ ghost use Rattle.pdl_reduce.specs.Reductions.{is_set};
 
 use crate::collected::Collected;
 use crate::folds::fold_block;
-use pdl_buf::{Strided, strided_read};
+use pdl_buf::{Strided, strided_read, strided_run, strided_type};
 use pdl_numbers::{Folding, prefix_laws};
 use std::alloc::AllocError;
 
 /// At most so many elements are worked on at once, which stay in the cache.
 pub(crate) const BLOCK: usize = 512;
+
+/// So few elements are as well read into a block.
+const FEW: usize = 16;
 
 /// What the window's elements from a position on, as many as the part has room for, come to after
 /// those before them.
@@ -131,8 +134,8 @@ pub(crate) fn find_in_window(
 }
 
 /// Puts what the window's elements from a position on, as many as the part has room for, come to
-/// up to each of them, after those before them, wrapped to the type of what is made. It answers
-/// what all come to.
+/// up to each of them, after those before them, wrapped to the type of what is made: straight from
+/// the buffer where they are neighbours of that type. It answers what all come to.
 fn run_part<F: Folding>(
     a: &Strided<'_>,
     first: u32,
@@ -148,6 +151,12 @@ fn run_part<F: Folding>(
         OnOk result (made.new.elems ≡ made.old.elems ++ new) }
     ensures typed { OnOk result (made.new.ty ≡ made.old.ty) }
 {
+    if part.len() > FEW && strided_type(a) == made.ty() {
+        let run = strided_run(a, first);
+        if part.len() <= run.len() {
+            return made.extend_prefixes_of::<F>(start, &run.first(part.len()));
+        }
+    }
     strided_read(a, first, part);
     made.extend_prefixes::<F>(start, part)
 }

@@ -1,5 +1,5 @@
 //! Assignments to the arrays of a scope.
-ghost use Rattle.std.specs.Prelude.{◌≡◌, ◌≢◌, ◌+◌, ◌≤◌, ◌&&◌, Ok, true, false, [], IfOk, IfSome, OnOk, is_some, length, sum_by};
+ghost use Rattle.std.specs.Prelude.{◌≡◌, ◌≢◌, ◌+◌, ◌≤◌, ◌&&◌, Ok, true, false, [], IfOk, IfSome, IsTrue, OnOk, is_some, length, sum_by};
 ghost use Rattle.pdl_shape.specs.Shape.{size_of};
 ghost use Rattle.pdl_buf.specs.Made.{IsMade};
 ghost use Rattle.pdl_world.specs.Paths.{root_of};
@@ -7,6 +7,8 @@ ghost use Rattle.pdl_world.specs.Sound.{IsLive};
 ghost use Rattle.pdl_world.specs.World.{assign, dims_in, ty_in};
 ghost use Rattle.pdl_engine.specs.Reading.{IsWarm, KeepsViews, read_steps};
 ghost use Rattle.pdl_engine.specs.State.{is_fresh, SameArrays, StayFresh};
+ghost use Rattle.pdl_assign.specs.Through.{GoesThrough};
+ghost use Rattle.pdl_lexemes.specs.declared.AssignOp.TheVariants.{Set};
 ghost use Rattle.pdl_machine.specs.Arrays.{array_in};
 ghost use Rattle.pdl_machine.specs.Flows.{followers, is_flow};
 ghost use Rattle.pdl_machine.specs.Following.{AreFlows};
@@ -26,10 +28,10 @@ use crate::fault::ScopeFault;
 use crate::flows::KeptFlow;
 use crate::following::{Change, Values, assign_all, is_followed, plan_flows};
 use crate::operating::operator_named;
-use crate::reading::ready_two;
+use crate::reading::{ready, ready_two};
 use crate::scope::Scope;
 use crate::watching::{foreseen, lookups, reads_views};
-use pdl_assign::{BLOCK, assign_blocks, can_block};
+use pdl_assign::{BLOCK, assign_blocks, assign_through, can_block, goes_through};
 use pdl_buf::{Elements, Steps};
 use pdl_engine::{ArrayId, Engine};
 use pdl_lexemes::AssignOp;
@@ -49,13 +51,14 @@ impl Scope {
     /// written, which takes no memory. Each flow that reads, directly or through flows, an array of
     /// the target's root takes at most one step of `runs`, and none where the script is refused. It
     /// takes at most a step for each position, beside those that it takes to read both arrays and each
-    /// array that a slot is attached to, and those of the flows that follow. What was assigned to can
-    /// be lent afterwards, unless its base has repeats.
+    /// array that a slot is attached to, and those of the flows that follow. Where it is to be readable,
+    /// what was assigned to can be lent afterwards, unless its base has repeats.
     pub fn assign<L: Ledger, M: Ledger>(
         &mut self,
         sign: AssignOp,
         target: ArrayId,
         value: ArrayId,
+        readable: bool,
         number: u64,
         steps: &mut Steps<L>,
         runs: &mut Steps<M>,
@@ -71,7 +74,7 @@ impl Scope {
         ensures affected { let old = self.old in
             runs.new ≤ runs.old + length (followers old.arrays.world old.flows target) }
         ensures unrun { IfScript result (runs.new ≡ runs.old) }
-        ensures warm { OnOk result (IsWarm (engine_of self.new) target) }
+        ensures warm { IsTrue readable → OnOk result (IsWarm (engine_of self.new) target) }
         ensures views { KeepsViews self.new.arrays.world self.old.arrays.world }
         ensures at_once { let e = engine_of self.old in followers e.world self.old.flows target ≡ []
             → is_fresh e target ≡ true → is_fresh e value ≡ true → attached self.old.watches ≡ []
@@ -87,7 +90,7 @@ impl Scope {
         if !self.is_alone(target) {
             return self.assign_planned(sign, target, value, number, steps, runs);
         }
-        match self.assign_alone(sign, target, value, steps) {
+        match self.assign_alone(sign, target, value, readable, steps) {
             Ok(()) => Ok(Vec::new(self.alloc)),
             Err(fault) => Err(fault),
         }
@@ -107,6 +110,89 @@ impl Scope {
 
     /// What `assign` does where no slot is attached and no flow follows.
     fn assign_alone<L: Ledger>(
+        &mut self,
+        sign: AssignOp,
+        target: ArrayId,
+        value: ArrayId,
+        readable: bool,
+        steps: &mut Steps<L>,
+    ) -> Result<(), ScopeFault>
+        requires target { IsLive self.old.arrays.world target }
+        requires value { IsLive self.old.arrays.world value }
+        requires unflowed { let root = root_of self.old.arrays.world target in
+            is_flow self.old.flows root ≡ false }
+        requires alone { IsAlone self.old target }
+        ensures runs { Assigns sign target value self.old self.new result }
+        ensures warm { IsTrue readable → OnOk result (IsWarm (engine_of self.new) target) }
+        ensures views { KeepsViews self.new.arrays.world self.old.arrays.world }
+        ensures counted { let e = engine_of self.old in
+            steps.new ≤ steps.old + (read_steps e target + read_steps e value)
+            + size_of (dims_in e.world target) }
+    {
+        if !readable && self.goes_through(sign, target, value, steps)? {
+            return self.assign_through(target, value, steps);
+        }
+        self.assign_lent(sign, target, value, steps)
+    }
+
+    /// Whether an assignment goes through the target's places, so that none of its elements is read:
+    /// there are more of them than one block has. To find out, the value is made one that can be lent,
+    /// which the assignment wants in any case.
+    fn goes_through<L: Ledger>(
+        &mut self,
+        sign: AssignOp,
+        target: ArrayId,
+        value: ArrayId,
+        steps: &mut Steps<L>,
+    ) -> Result<bool, AllocError>
+        requires target { IsLive self.old.arrays.world target }
+        requires value { IsLive self.old.arrays.world value }
+        ensures same { OnlyReads self.old self.new }
+        ensures through { IfOk result
+            (λ b. b ≡ true → GoesThrough sign (engine_of self.new) target value) }
+        ensures lent { IfOk result (λ b. b ≡ true → is_fresh (engine_of self.new) value ≡ true) }
+        ensures counted { let e = engine_of self.old in
+            steps.new ≤ steps.old + (read_steps e target + read_steps e value) }
+        ensures spent { let e = engine_of self.old in let f = engine_of self.new in
+            OnOk result (steps.new + (read_steps f target + read_steps f value)
+            ≤ steps.old + (read_steps e target + read_steps e value)) }
+    {
+        let count = elements_of(self.engine.dims(target)) as usize;
+        if count <= BLOCK {
+            return Ok(false);
+        }
+        ready(&mut self.engine, value, steps)?;
+        Ok(goes_through(&self.engine, sign, target, value))
+    }
+
+    /// What `assign_alone` does through the target's places, into its root. The target's own elements
+    /// aren't brought up to date.
+    fn assign_through<L: Ledger>(
+        &mut self,
+        target: ArrayId,
+        value: ArrayId,
+        steps: &mut Steps<L>,
+    ) -> Result<(), ScopeFault>
+        requires target { IsLive self.old.arrays.world target }
+        requires value { IsLive self.old.arrays.world value }
+        requires unflowed { let root = root_of self.old.arrays.world target in
+            is_flow self.old.flows root ≡ false }
+        requires alone { IsAlone self.old target }
+        requires lent { is_fresh (engine_of self.old) value ≡ true }
+        requires through { GoesThrough Set (engine_of self.old) target value }
+        ensures runs { Assigns Set target value self.old self.new result }
+        ensures views { KeepsViews self.new.arrays.world self.old.arrays.world }
+        ensures counted { steps.new ≤ steps.old + read_steps (engine_of self.old) target }
+    {
+        assignment_laws();
+        part_laws();
+        keeping_laws();
+        flow_laws();
+        Ok(assign_through(&mut self.engine, target, value, steps)?)
+    }
+
+    /// What `assign_alone` does where the target is made one that can be lent.
+    fn assign_lent<L: Ledger>(
         &mut self,
         sign: AssignOp,
         target: ArrayId,

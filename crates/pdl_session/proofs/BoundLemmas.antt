@@ -134,11 +134,11 @@ on_any : {T : Type 0} (r : Result T ScopeFault) → OnOk r (Unit {0})
 on_any (Ok x) = tt
 on_any (Err e) = tt
 
--- what was assigned to can be read afterwards
+-- what was assigned to by a bare name can be read afterwards
 pub assigned_readable : {T : Type 0} (r : Result T ScopeFault) (x : List ℕ) (vs : List View) (sign : AssignOp) (e : Tree) (old mid new : Scope) (before now to : ℕ)
-    → (vs ≡ [] → IsBare x old mid before now (Ok to)) → OnOk r (IsWarm (engine_of new) to) → OnOk r (LeavesReadable (assign x vs sign e) old new)
+    → (vs ≡ [] → IsBare x old mid before now (Ok to)) → (vs ≡ [] → OnOk r (IsWarm (engine_of new) to)) → OnOk r (LeavesReadable (assign x vs sign e) old new)
 assigned_readable r x (v ∷ vs) sign e old mid new before now to bare warm = on_any r
-assigned_readable r x [] sign e old mid new before now to bare warm = subst (λ o. OnOk r (IfSome o (IsWarm (engine_of new)))) (sym (bare refl).is) warm
+assigned_readable r x [] sign e old mid new before now to bare warm = subst (λ o. OnOk r (IfSome o (IsWarm (engine_of new)))) (sym (bare refl).is) (warm refl)
 
 -- the array of a name
 name_is : (a new : Arrays) (o : Option ℕ) (v : ℕ) → known a o ≡ Ok (new, v) → o ≡ Some v

@@ -209,7 +209,7 @@ fn assign_value<L: Ledger, M: Ledger>(
     scope.in_order();
     let from = eval(scope, value, steps)?;
     scope.in_order();
-    scope.assign(sign, to, from, number, steps, runs)
+    scope.assign(sign, to, from, is_bare, number, steps, runs)
 }
 
 /// Prints a value, or its info. A part of the text may stand in `out` when out of memory.

@@ -5,7 +5,7 @@ ghost use Rattle.pdl_elem.specs.declared.Ty.TheVariants.{Byte, Short};
 use crate::arrays::{numbers, shape, triple, window};
 use crate::comparing::{same, same_list};
 use pdl_buf::*;
-use pdl_elem::Ty;
+use pdl_elem::{BinaryOp, Ty};
 use pdl_numbers::Placement;
 use pdl_shape::{Dims, dims_list};
 use std::alloc::Global;
@@ -79,6 +79,7 @@ fn reads_turned_blocks(rt: HostRuntime) {
 fn stepped<'a>(rt: &impl Abort, alloc: Global, buf: &'a Buf) -> Strided<'a>
     requires { length buf.now.elems ≡ 6 }
     ensures count { length result.elems ≡ 3 }
+    ensures dims { result.dims ≡ 3 ∷ [] }
     ensures kind { result.ty ≡ buf.now.ty }
 {
     window(rt, alloc, buf, 1, &[2], &[3])
@@ -114,6 +115,39 @@ fn gathered_by_steps<L: Ledger>(rt: &impl Abort, alloc: Global, blank: Blank)
 fn gathers_by_steps(rt: HostRuntime) {
     let rt = &rt;
     gathered_by_steps::<Brand>(rt, rt.alloc(), Blank::new(1));
+}
+
+// Every second of the numbers from 1 to 6, from the second on, is copied to three places, and these
+// are taken out.
+fn copy_stepped<L: Ledger>(
+    rt: &impl Abort,
+    alloc: Global,
+    stepped: &Strided<'_>,
+    steps: &mut Steps<L>,
+)
+    requires dims { stepped.now.dims ≡ 3 ∷ [] }
+    requires kind { stepped.now.ty ≡ Byte }
+{
+    let mut into = buf_of(alloc, Ty::Byte, &[9, 9, 9], steps).expect(rt, "memory");
+    let placement = Placement::of(&triple(rt, alloc, 0, &[1], &[3]));
+    copy_shown(&mut into, &placement, stepped, steps);
+    keeps(rt, &buf_take(&mut into), [2, 4, 6]);
+}
+
+fn copied_by_steps<L: Ledger>(rt: &impl Abort, alloc: Global, blank: Blank)
+    requires name { blank.name ≡ L.name }
+    requires parts { blank.parts ≡ L.parts }
+    requires some { 0 < blank.parts }
+{
+    let mut steps = new_steps::<L>(blank);
+    let buf = buf_of(alloc, Ty::Byte, &[1, 2, 3, 4, 5, 6], &mut steps).expect(rt, "memory");
+    copy_stepped(rt, alloc, &stepped(rt, alloc, &buf), &mut steps);
+}
+
+#[test]
+fn copies_by_steps(rt: HostRuntime) {
+    let rt = &rt;
+    copied_by_steps::<Brand>(rt, rt.alloc(), Blank::new(1));
 }
 
 // The window is of three bytes, of which the second is 4.
@@ -158,4 +192,37 @@ fn lends_bytes(rt: HostRuntime) {
     let rt = &rt;
     let buf = numbers(rt, rt.alloc(), Ty::Short, &[1, -2]);
     same_list(rt, buf_bytes(&buf), &[0x01, 0x00, 0xFE, 0xFF]);
+}
+
+// A run's numbers doubled, and then its first two, put behind one another.
+fn doubled(rt: &impl Abort, alloc: Global, run: &Run<'_>, mut made: Packing) -> Vec<i64>
+    requires { made.ty ≡ run.now.ty }
+{
+    let again = run.first(run.len());
+    made.extend_values_of(BinaryOp::Add, run, &again)
+        .expect(rt, "memory");
+    made.extend_run(&run.first(run.len().min(2)))
+        .expect(rt, "memory");
+    made.into_list(alloc).expect(rt, "memory")
+}
+
+// What `doubled` gives of 3, 200 and 5, as bytes, is packed as it is listed.
+fn runs_are_doubled(rt: &impl Abort, alloc: Global, run: &Run<'_>) {
+    let packed = Packing::new(alloc, run.ty(), 5).expect(rt, "memory");
+    let list = Packing::list(alloc, run.ty(), 5).expect(rt, "memory");
+    let want = [6, 144, 10, 3, 200];
+    same_list(rt, &doubled(rt, alloc, run, packed), &want);
+    same_list(rt, &doubled(rt, alloc, run, list), &want);
+}
+
+#[test]
+fn works_on_runs(rt: HostRuntime) {
+    let rt = &rt;
+    let buf = numbers(rt, rt.alloc(), Ty::Byte, &[1, 2, 3, 200, 5, 6]);
+    let row = window(rt, rt.alloc(), &buf, 1, &[1], &[4]);
+    let run = strided_run(&row, 1);
+    let list = run.to_list(rt.alloc()).expect(rt, "memory");
+    same(rt, run.ty(), Ty::Byte);
+    same_list(rt, &list, &[3, 200, 5]);
+    runs_are_doubled(rt, rt.alloc(), &run);
 }

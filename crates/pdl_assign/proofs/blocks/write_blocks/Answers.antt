@@ -84,8 +84,10 @@ returns-clause-written g c =
       holds = c.loop-done.invariant.holds;
       next = c.loop-done.invariant.next;
       sound = c.loop-done.invariant.sound;
-      fresh = c.loop-done.invariant.target_fresh;
     }
+
+pub returns-clause-fresh : goal.returns-clause-fresh
+returns-clause-fresh g c = c.loop-done.invariant.target_fresh
 
 pub returns-clause-counted : goal.returns-clause-counted
 returns-clause-counted g c = omega (arith, c.loop-done.invariant.counted, c.loop-done.invariant.inside, c.loop-done-test.false, c.count_of-count.ensures.dims)

@@ -104,8 +104,10 @@ returns-clause-written g c =
       holds = c.loop-shown.invariant.holds;
       next = c.loop-shown.invariant.next;
       sound = c.loop-shown.invariant.sound;
-      fresh = c.loop-shown.invariant.fresh;
     }
+
+pub returns-clause-fresh : goal.returns-clause-fresh
+returns-clause-fresh g c = c.loop-shown.invariant.fresh
 
 pub returns-clause-others : goal.returns-clause-others
 returns-clause-others g c = c.loop-shown.invariant.others

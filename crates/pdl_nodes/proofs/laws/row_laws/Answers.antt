@@ -1,4 +1,4 @@
-use Rattle.pdl_nodes.proofs.AlikeLemmas.{root_live, base_live, root_own, each_numbers, is_alike, each_past, ready_same, ready_trans}
+use Rattle.pdl_nodes.proofs.AlikeLemmas.{root_live, base_live, root_own, each_numbers, is_alike, alike_trans, each_past, ready_same, ready_trans}
 use Rattle.pdl_nodes.proofs.HoldsAlone.{nothing_goes, all_stand, kept_tells, last_beside, root_waits, alone_from, alone_tells, alone_let_go}
 use Rattle.pdl_nodes.proofs.WorldsOverBases.{over_known}
 use Rattle.pdl_nodes.proofs.RenewLawOrder.{world_ty, world_dims}
@@ -67,6 +67,7 @@ returns c = record {
   };
   kept = record {
     sized_alike = sized_alike;
+    alike_trans = alike_trans;
     ready_same = ready_same;
     ready_trans = ready_trans;
     fresh_stays = fresh_stays;

@@ -8,7 +8,7 @@ use Rattle.pdl_elem.specs.Operators.{value_of}
 use Rattle.pdl_elem.specs.Types.{InRange, binary_result}
 use Rattle.pdl_shape.specs.Shape.{size_of}
 use Rattle.pdl_ops.proofs.ElementwiseForms.{all_pairs}
-use Rattle.pdl_ops.proofs.ElementwiseParts.{made_all, made_more, made_never}
+use Rattle.pdl_ops.proofs.ElementwiseParts.{AreMade, made_all, made_begun, made_more, made_never, values_found}
 use Rattle.pdl_ops.proofs.ValueCuts.{length_pairs}
 use Rattle.pdl_ops.proofs.blocks.values_within.Goals as goal
 
@@ -23,6 +23,33 @@ returns-in-Some-clause-value c =
     made_never c.args.op c.args.ty _ _ _ _ k n c.in-Some.place
     (omega (arith, m, ap size_of c.strided_dims.ensures.dims)) c.loop-done.invariant.made
     part (sym c.in_ok-found.ensures.refused ∙ c.in-Some.is)
+
+pub loop-done-init : goal.loop-done-init
+loop-done-init c =
+    let f : ℤ → ℤ = wrapped c.args.ty in
+    let value : ℤ → ℤ → ℤ = value_of c.args.op c.args.ty in
+    let k : ℕ = c.args.begun in
+    let xs : List ℤ = c.args.a.now.elems in
+    let bs : List ℤ = c.args.b.now.elems in
+    let us : List ℤ = map f (take k xs) in
+    let vs : List ℤ = map f (take k bs) in
+    let left : length us ≡ k = length-map (take k xs) f ∙ length-take-le k xs (omega (arith, c.requires.within, c.requires.paired)) in
+    let right : length vs ≡ k = length-map (take k bs) f ∙ length-take-le k bs c.requires.within in
+    let made : AreMade c.args.op c.args.ty (map f xs) (map f bs) k c.args.made.elems =
+    made_begun c.args.op c.args.ty _ _ us vs k (simp take-map) (simp take-map)
+    (all_pairs (InRange (binary_result c.args.op c.args.ty c.args.ty)) value (c.operator_laws.ensures.binary c.args.op c.args.ty) us vs) c.requires.begun in
+    record {
+      begun = omega arith;
+      inside = omega (arith, c.requires.within, c.elements_of-count.ensures.count, c.strided_dims.ensures.count, ap size_of c.strided_dims.ensures.dims);
+      room = c.requires.room;
+      ty = c.requires.typed;
+      count = ap (λ (zs : List ℤ). length zs) (values_found c.args.op c.args.ty us vs c.args.made.elems c.requires.begun) ∙ length_pairs value us vs (left ∙ sym right) ∙ right;
+      made = made;
+    }
+
+pub loop-done-smaller : goal.loop-done-smaller
+loop-done-smaller c =
+    omega (arith, c.loop-done.invariant.begun, c.loop-done.invariant.inside, c.loop-done-test.true, c.min-size.ensures, c.requires.some, c.elements_of-count.ensures.count, c.strided_dims.ensures.count, ap size_of c.strided_dims.ensures.dims)
 
 pub loop-done-preserved : goal.loop-done-preserved
 loop-done-preserved c =
@@ -42,6 +69,7 @@ loop-done-preserved c =
     let put = c.in_ok-found.ensures.made c.in_default.is in
     let room : length c.put_block.new.room ≡ 3 * n = c.put_block.ensures.length in
     record {
+      begun = omega arith;
       inside = omega arith;
       room = omega (arith, room, c.loop-done.invariant.room, length-append c.put_block.new.room (drop (3 * n) c.loop-done.room), length-drop (3 * n) c.loop-done.room);
       ty = ap (λ (p : TypedElements). p.ty) put ∙ c.loop-done.invariant.ty;

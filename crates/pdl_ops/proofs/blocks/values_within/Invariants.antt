@@ -7,6 +7,7 @@ use Rattle.pdl_ops.proofs.blocks.values_within.Given as goal
 
 abbrev pub invariant-loop-done : goal.invariant-loop-done
 invariant-loop-done l = record {
+  begun : l.begun ≤ l.done;
   inside : l.done ≤ l.count;
   room : 3 * l.block ≤ length l.room;
   ty : l.made.ty ≡ binary_result l.op l.ty l.ty;

@@ -1,5 +1,6 @@
 -- One block more is changed, and all are at the end.
 use Rattle.std.proofs.Common.{◌≡◌, ℕ, ◌<◌, ℤ, List, length, length-append, take, drop, map, All, arith, ap, ap₂, sym, subst, ◌∙◌}
+use Rattle.std.proofs.lemmas.List.{length-map, length-take-le}
 use Rattle.pdl_lemmas.specs.Lists.{take_written}
 use Rattle.pdl_numbers.specs.Typed.{TypedElements}
 use Rattle.pdl_elem.specs.declared.Ty.{Ty}
@@ -8,6 +9,21 @@ use Rattle.pdl_shape.specs.Shape.{size_of}
 use Rattle.pdl_ops.specs.Changes.{changed, changed_type}
 use Rattle.pdl_ops.proofs.ElementwiseParts.{changed_all, changed_more}
 use Rattle.pdl_ops.proofs.changes.changed_elements.Goals as goal
+
+pub loop-done-init : goal.loop-done-init
+loop-done-init c =
+    let k : ℕ = c.args.begun in
+    let es : List ℤ = c.args.a.now.elems in
+    let f : ℤ → ℤ = changed c.args.change c.args.a.now.ty in
+    let elems : c.args.made.elems ≡ map f (take k es) = ap (λ (p : TypedElements). p.elems) c.requires.begun in
+    let ty : c.args.made.ty ≡ changed_type c.args.change c.args.a.now.ty = ap (λ (p : TypedElements). p.ty) c.requires.begun in
+    record {
+      inside = omega (arith, c.requires.within, c.strided_dims.ensures.count, c.elements_of-count.ensures.count, ap size_of c.strided_dims.ensures.dims);
+      some = λ more. omega (arith, more, c.in_ok-block.ensures.len, c.min.ensures, c.block_of.ensures);
+      ty = ty;
+      count = ap (λ (zs : List ℤ). length zs) elems ∙ length-map (take k es) f ∙ length-take-le k es c.requires.within;
+      made = record { made_is = elems; in_range = subst (λ (t : Ty). All (InRange t) c.args.made.elems) ty c.are_in_range.ensures };
+    }
 
 pub loop-done-preserved : goal.loop-done-preserved
 loop-done-preserved c =

@@ -1,20 +1,15 @@
 -- The root was written, and is marked alone.
-use Rattle.std.proofs.Common.{◌≡◌, ◌+◌, ℕ, true, refl, sym, ◌∙◌, ap, subst}
+use Rattle.std.proofs.Common.{◌≡◌, ◌+◌, true, refl, sym, ◌∙◌, ap, subst}
 use Rattle.pdl_shape.specs.Shape.{size_of}
-use Rattle.pdl_nodes.specs.Changes.{mark_in}
 use Rattle.pdl_nodes.specs.Put.{IsWrite, put_in}
 use Rattle.pdl_nodes.specs.Row.{Row, is_buffered, shown_of}
-use Rattle.pdl_nodes.specs.Rows.{Rows, each, has, row_at}
+use Rattle.pdl_nodes.specs.Rows.{Rows, has, row_at}
 use Rattle.pdl_nodes.specs.Updates.{CanUpdate, updated_at}
 use Rattle.pdl_nodes.specs.declared.node.Goal.TheVariants.{Root}
 use Rattle.pdl_nodes.specs.declared.node.Shown.{Shown}
-use Rattle.pdl_push.proofs.LateAssignments.{at_root, there}
+use Rattle.pdl_push.proofs.LateAssignments.{at_root, shown_again, there, written_there}
 use Rattle.pdl_push.proofs.TargetLemmas.{target_root}
 use Rattle.pdl_push.proofs.assigning.update.Goals as goal
-
--- where the elements stand, by the number of the array
-shown_again : (t : Rows) (v : ℕ) (at : Shown) → at ≡ shown_of v (row_at t v) → at ≡ shown_of at.id (row_at t at.id)
-shown_again t v at e = e ∙ ap (λ x. shown_of x (row_at t x)) (sym (ap (λ (s : Shown). s.id) e))
 
 pub update-requires : goal.update-requires
 update-requires g c =
@@ -48,25 +43,19 @@ returns-clause-write g c =
     let id : c.shown-at.result.id ≡ c.args.id = ap (λ (s : Shown). s.id) (c.shown-at.ensures ∙ ap (shown_of c.args.id) c.node.ensures) in
     subst (λ v. IsWrite t v 0 (updated_at c.args.change t v)) id c.update.ensures.write
 
--- the rows then
-written : (t put new : Rows) (v : ℕ) (at : Shown) (f : ℕ → ℕ → Row → Row) → at ≡ shown_of v (row_at t v) → put ≡ each (f at.id) t → new ≡ each (mark_in at.root at.root) put
-    → new ≡ each (mark_in (row_at t v).root (row_at t v).root) (each (f v) t)
-written t put new v at f e h n =
-    n ∙ ap (each (mark_in at.root at.root)) h ∙ ap (λ (s : Shown). each (mark_in s.root s.root) (each (f s.id) t)) e
-
 pub returns-clause-assigned : goal.returns-clause-assigned
 returns-clause-assigned g c =
     let t : Rows = c.args.table.now in
     (at_root c.row_laws.ensures t c.mark.new.self c.args.id 0 (updated_at c.args.change t c.args.id) (returns-clause-write g c)
     (target_root t (row_at t c.args.id).root (row_at t c.args.id).base c.args.id refl refl c.requires.over_root)
-    (written t c.update.new.self c.mark.new.self c.args.id c.shown-at.result (λ v. put_in Root t v 0 (updated_at c.args.change t v)) (c.shown-at.ensures ∙ ap (shown_of c.args.id) c.node.ensures) c.update.ensures.put c.mark.ensures)).0
+    (written_there t c.update.new.self c.mark.new.self c.args.id c.shown-at.result (λ v. put_in Root t v 0 (updated_at c.args.change t v)) (c.shown-at.ensures ∙ ap (shown_of c.args.id) c.node.ensures) c.update.ensures.put c.mark.ensures)).0
 
 pub returns-clause-waits : goal.returns-clause-waits
 returns-clause-waits g c =
     let t : Rows = c.args.table.now in
     (at_root c.row_laws.ensures t c.mark.new.self c.args.id 0 (updated_at c.args.change t c.args.id) (returns-clause-write g c)
     (target_root t (row_at t c.args.id).root (row_at t c.args.id).base c.args.id refl refl c.requires.over_root)
-    (written t c.update.new.self c.mark.new.self c.args.id c.shown-at.result (λ v. put_in Root t v 0 (updated_at c.args.change t v)) (c.shown-at.ensures ∙ ap (shown_of c.args.id) c.node.ensures) c.update.ensures.put c.mark.ensures)).1
+    (written_there t c.update.new.self c.mark.new.self c.args.id c.shown-at.result (λ v. put_in Root t v 0 (updated_at c.args.change t v)) (c.shown-at.ensures ∙ ap (shown_of c.args.id) c.node.ensures) c.update.ensures.put c.mark.ensures)).1
 
 pub returns-clause-counted : goal.returns-clause-counted
 returns-clause-counted g c =

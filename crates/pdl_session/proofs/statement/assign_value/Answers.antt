@@ -1,4 +1,4 @@
-use Rattle.std.proofs.Common.{◌≡◌, ◌+◌, ◌≤◌, List, length, subst, ◌∙◌}
+use Rattle.std.proofs.Common.{◌≡◌, ◌+◌, ◌≤◌, List, length, ap, subst, ◌∙◌}
 use Rattle.std.specs.Prelude.{map, ◌==◌}
 use Rattle.pdl_shape.specs.Shape.{size_of}
 use Rattle.pdl_world.specs.World.{dims_in}
@@ -55,8 +55,10 @@ returns-clause-moves g c =
 
 pub returns-clause-readable : goal.returns-clause-readable
 returns-clause-readable g c =
+    let bare : c.is_empty-is_bare.result ≡ (length c.args.to.now.views.items == 0) = subst (λ (vs : List ViewCall). c.is_empty-is_bare.result ≡ (length vs == 0)) c.deref-views.ensures.value c.is_empty-is_bare.ensures in
     assigned_readable c.assign.result c.args.to.now.name (map view_of c.args.to.now.views.items) c.args.sign (tree_of c.args.value.now) c.args.scope.now c.assigned_to.new.scope c.assign.new.self c.args.steps.now c.assigned_to.new.steps c.in_ok-to.to
-    (λ none. c.in_ok-to.ensures.bare (no_views_of c.args.to.now.views.items none)) c.assign.ensures.warm
+    (λ none. c.in_ok-to.ensures.bare (no_views_of c.args.to.now.views.items none))
+    (λ none. c.assign.ensures.warm (bare ∙ ap (λ (vs : List ViewCall). length vs == 0) (no_views_of c.args.to.now.views.items none)))
 
 pub returns-in_err-to-clause-within : goal.returns-in_err-to-clause-within
 returns-in_err-to-clause-within g c =

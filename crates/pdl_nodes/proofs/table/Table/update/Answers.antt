@@ -14,7 +14,7 @@ use Rattle.pdl_nodes.proofs.ChildrenCounted.{counted_each}
 use Rattle.pdl_nodes.proofs.MarkedListing.{one_kept}
 use Rattle.pdl_nodes.proofs.RowOrigins.{root_buffered}
 use Rattle.pdl_nodes.proofs.RowsSeen.{is_seen}
-use Rattle.pdl_nodes.proofs.UpdateLemmas.{once_at, reaches_at, root_at, update_rows, update_writes}
+use Rattle.pdl_nodes.proofs.UpdateLemmas.{once_at, root_at, root_reaches, update_rows, update_writes}
 use Rattle.pdl_nodes.proofs.table.Table.update.Goals as goal
 
 pub index-key-requires : goal.index-key-requires
@@ -39,7 +39,7 @@ update-requires-clause-once g c = once_at c.repeat_laws.ensures.repeated c.args.
 pub update-requires-clause-reaches : goal.update-requires-clause-reaches
 update-requires-clause-reaches g c =
     let row = node_is c.args.self.now c.self.inside.keys c.self.inside.nodes c.args.at.now.root c.index-key.result.now c.index_mut.result.now c.self.view_is c.self.invariant.0.0 c.index-key.ensures c.index_mut.ensures.value in
-    subst (λ (r : Row). Reaches c.args.at.now.triple (length r.kept)) (sym row) (reaches_at c.shape_laws.ensures.positions c.args.change c.args.self.now c.args.at.now c.requires.update c.requires.shown c.requires.over_root)
+    subst (λ (r : Row). Reaches c.args.at.now.triple (length r.kept)) (sym row) (root_reaches c.shape_laws.ensures.positions c.args.self.now c.args.at.now c.requires.update.order c.requires.update.live c.requires.shown c.requires.over_root)
 
 pub returns-clause-write : goal.returns-clause-write
 returns-clause-write g c = update_writes c.wrapping_laws.ensures c.args.change c.args.self.now c.args.at.now.id c.requires.update

@@ -1,46 +1,23 @@
--- The cells are the bytes of the numbers at the places.
-use Rattle.std.proofs.Common.{◌≡◌, ℕ, ◌-◌, ℤ, pos, List, ◌++◌, map, take, drop, replicate, length, rules, arith, ap, sym, subst, ◌∙◌, All}
+-- One block more is fetched, and all are at the end.
+use Rattle.std.proofs.Common.{◌≡◌, ℕ, ◌+◌, ◌-◌, ℤ, List, ◌++◌, take, drop, arith, ap, ◌∙◌}
 use Rattle.std.specs.Prelude.{Option}
-use Rattle.std.proofs.lemmas.List.{take_at}
-use Rattle.std.proofs.lemmas.List.Elements.{All-append, All-nil, All-replicate, All-take}
-use Rattle.pdl_elem.specs.declared.Ty.{Ty}
+use Rattle.std.proofs.lemmas.List.{take_all}
 use Rattle.pdl_shape.specs.Places.{read}
-use Rattle.pdl_numbers.specs.Bytes.{ArePacked, bytes_of, number_of}
-use Rattle.pdl_numbers.proofs.ByteLemmas.{all_again, all_packed}
-use Rattle.pdl_numbers.proofs.PlacedCells.{read_in_range}
+use Rattle.pdl_numbers.proofs.PlaceLists.{read_part_more}
 use Rattle.pdl_numbers.proofs.packed.Packed.gathered.Goals as goal
 
-pub gather_cells-requires : goal.gather_cells-requires
-gather_cells-requires g c =
-    let t : Ty = g.T.PackedType.ty in
-    let P : List ℕ → Type 0 = λ cell. cell ≡ bytes_of t (pos 0) in
-    let none : List (List ℕ) = c.in_ok-cells.cells.items in
-    let n : ℕ = length c.args.places.now in
-    let paired : length c.as_mut_slice.result.now ≡ n = omega (arith, c.in_ok-resize.ensures.len) in
-    let zeros : All P (take n none ++ replicate (n - c.in_ok-cells.cells.len) c.pack.result) =
-    All-append P (take n none) (replicate (n - c.in_ok-cells.cells.len) c.pack.result)
-    (All-take P n none (subst (All P) (sym c.in_ok-cells.ensures.items) (All-nil P)))
-    (All-replicate P (n - c.in_ok-cells.cells.len) c.pack.result c.pack.ensures) in
-    (search rules, (paired, (subst (All P) (sym (c.as_mut_slice.ensures.value ∙ c.in_ok-resize.ensures.items)) zeros, subst (ArePacked t) (sym c.as_slice.ensures.value) c.self.invariant)))
+pub loop-done-init : goal.loop-done-init
+loop-done-init g c = c.in_ok-packed.ensures
 
-pub invariant_of-result : goal.invariant_of-result
-invariant_of-result g c =
-    let t : Ty = g.T.PackedType.ty in
+pub loop-done-preserved : goal.loop-done-preserved
+loop-done-preserved g c =
     let ps : List (Option ℕ) = c.args.places.now in
-    let cells : List (List ℕ) = c.gather_cells.new.cells in
-    let rest : List (List ℕ) = drop (length cells) c.resize.new.self.items in
-    let numbers : List ℤ = map (number_of t) c.as_slice.result.now in
-    let made : take c.resize.new.self.len (cells ++ rest) ≡ map (bytes_of t) (read ps numbers) = take_at cells rest c.resize.new.self.len (omega arith) ∙ c.gather_cells.ensures in
-    subst (ArePacked t) (sym made) (all_packed t (read ps numbers) (read_in_range c.wrapping_laws.ensures t ps c.as_slice.result.now))
+    let es : List ℤ = c.args.self.now in
+    let k : ℕ = c.loop-done.done in
+    let n : ℕ = c.min-size.result in
+    let same : k + n - k ≡ n = omega arith in
+    read_part_more ps es c.loop-done.packed c.extend_gathered.new.self k n c.loop-done.invariant
+    (c.in_ok-extend_gathered.ensures.ok ∙ ap (λ (m : ℕ). c.loop-done.packed ++ read (take m (drop k ps)) es) same)
 
 pub returns : goal.returns
-returns g c =
-    let t : Ty = g.T.PackedType.ty in
-    let ps : List (Option ℕ) = c.args.places.now in
-    let cells : List (List ℕ) = c.gather_cells.new.cells in
-    let rest : List (List ℕ) = drop (length cells) c.resize.new.self.items in
-    let numbers : List ℤ = map (number_of t) c.as_slice.result.now in
-    let made : take c.resize.new.self.len (cells ++ rest) ≡ map (bytes_of t) (read ps numbers) = take_at cells rest c.resize.new.self.len (omega arith) ∙ c.gather_cells.ensures in
-    ap (map (number_of t)) made
-    ∙ all_again t (read ps numbers) (read_in_range c.wrapping_laws.ensures t ps c.as_slice.result.now)
-    ∙ ap (read ps) (ap (map (number_of t)) c.as_slice.ensures.value ∙ c.self.view_is)
+returns g c = c.loop-done.invariant ∙ ap (λ (qs : List (Option ℕ)). read qs c.args.self.now) (take_all c.loop-done.done c.args.places.now c.loop-done-test.false)

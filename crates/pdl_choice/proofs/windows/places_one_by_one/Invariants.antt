@@ -4,7 +4,7 @@ use Rattle.pdl_shape.specs.Shape.{size_of, coordinates_of}
 use Rattle.pdl_shape.specs.Places.{AllBelow}
 use Rattle.pdl_choice.specs.Rounds.{numbers_at}
 use Rattle.pdl_choice.proofs.RangePlaces.{rounds, window_position}
-use Rattle.pdl_choice.proofs.windows.window_places.Given as goal
+use Rattle.pdl_choice.proofs.windows.places_one_by_one.Given as goal
 
 abbrev pub invariant-loop-round : goal.invariant-loop-round
 invariant-loop-round l =

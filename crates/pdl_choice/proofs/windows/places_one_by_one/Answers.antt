@@ -9,7 +9,7 @@ use Rattle.pdl_choice.proofs.WhereLists.{rounds_grow, rounds_none}
 use Rattle.pdl_choice.proofs.ShapeSteps.{rounds_all, rounds_below}
 use Rattle.pdl_choice.proofs.RangePlaces.{window_position}
 use Rattle.pdl_choice.proofs.RoundsWindows.{all_placed, at_long, at_round, first_round, round_moved, round_places, round_within, rounds_are}
-use Rattle.pdl_choice.proofs.windows.window_places.Goals as goal
+use Rattle.pdl_choice.proofs.windows.places_one_by_one.Goals as goal
 
 pub loop-round-init : goal.loop-round-init
 loop-round-init c = (
