@@ -115,7 +115,7 @@ put_within n parent None rest h w = tt
 put_within n parent (Some c) None h w = tt
 put_within n parent (Some c) (Some cs) h w = (h, w)
 
-window_within : (edge : Edge) (parent windows : List ℕ) (corner : List ℤ) (at : List ℕ) → length windows ≤ length parent → length corner ≡ length windows
+pub window_within : (edge : Edge) (parent windows : List ℕ) (corner : List ℤ) (at : List ℕ) → length windows ≤ length parent → length corner ≡ length windows
     → ((j : ℕ) → j < length windows → edge_refuses edge (get_or parent j 0) (get_or windows j 0) (get_or corner j (pos 0)) ≡ false)
     → IsWithin (inner_dims parent windows) at → IfSome (window_source edge parent windows corner at) (IsWithin parent)
 window_within edge parent [] [] at fit paired allowed w = w

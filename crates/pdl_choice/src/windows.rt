@@ -1,7 +1,7 @@
 //! range: a window of the parent at each corner that an index lists.
 ghost use Rattle.std.specs.Prelude.{◌≡◌, ◌≢◌, ◌<◌, ◌^◌, IsTrue, ◌≤◌, ◌≤ℤ◌, ◌⊎◌, ◌*◌, ◌+◌, ◌-◌, max, [], ◌∷◌, ◌/◌, ◌%◌, ℕ, false, pos, slice_index, slice_index_or, ◌++◌, length, take, drop, map, filter, All, Ok, Err, IfOk, IfErr, IfSome, IfNone, OnOk, Some, None, vec_len};
 ghost use Rattle.std.specs.Bool.{OnFalse};
-ghost use Rattle.std.specs.List.{list_any, range_with_len};
+ghost use Rattle.std.specs.List.{Any, list_any, range_with_len};
 ghost use Rattle.std.specs.Option.{option_map, unwrap_or};
 ghost use Rattle.pdl_shape.specs.Shape.{IsDims, dims_limit, extent, extent_limit, size_of, position_of, coordinates_of};
 ghost use Rattle.pdl_shape.specs.Limits.{checked_dims};
@@ -9,8 +9,7 @@ ghost use Rattle.pdl_shape.specs.Places.{AllBelow, places_of};
 ghost use Rattle.pdl_shape.specs.Refusals.{Refuses};
 ghost use Rattle.pdl_choice.specs.Choice.{position_in, refusal_of};
 ghost use Rattle.pdl_choice.specs.Edges.{edge_refuses, from_zero};
-ghost use Rattle.pdl_choice.specs.declared.edges.Edge.{Edge as EdgeKind};
-ghost use Rattle.pdl_choice.specs.declared.edges.Edge.TheVariants.{Refuse};
+ghost use Rattle.pdl_choice.specs.declared.edges.Edge.TheVariants.{Refuse, Zero};
 ghost use Rattle.pdl_choice.specs.Rounds.{CanPlaceAll, CanPlaceEach, numbers_at, placed, window_place};
 ghost use Rattle.pdl_choice.specs.Range.{capped, corner_len, is_negative, is_positive, window_refusal, window_sizes, first_refused, inner_dims, range_dims, range_outside, range_source, AllAllowed};
 
@@ -254,6 +253,7 @@ fn next_number(number: usize, count: usize) -> usize
 /// The place in a parent of dimensions `parent` of one position of the window at `corner`: that
 /// of the coordinates that lie `at` past the corner. The last number of `at` is the place in the
 /// dimensions that are left.
+#[inline(always)]
 fn corner_place(edge: Edge, parent: &[u32], corner: &[i64], at: &[u32]) -> Option<u32>
     requires paired { length at.now ≡ length corner.now + 1 }
     requires fit { length corner.now ≤ length parent.now }
@@ -378,8 +378,8 @@ fn are_inside(edge: Edge, parent: &[u32], windows: &[u64], ind: &[i64]) -> bool
     }
 }
 
-/// The place in the parent of each corner, all of which lie in it. `first` is the first position of
-/// a window.
+/// The place in the parent of each corner, and 0 for one that lies beyond it. `first` is the first
+/// position of a window.
 fn corner_places(
     alloc: Global,
     parent: &[u32],
@@ -391,24 +391,70 @@ fn corner_places(
     requires fit { length first.now ≤ length parent.now + 1 }
     requires whole { length ind.now ≡ (length first.now - 1) * corners }
     requires bounded { extent parent.now ≤ extent_limit }
-    requires allowed { CanPlaceAll Refuse parent.now ind.now (length first.now - 1) first.now }
     requires within { slice_index first.now (length first.now - 1)
         < size_of (drop (length first.now - 1) parent.now) }
     ensures places { let corner = λ (q : ℕ). numbers_at ind.now (length first.now - 1) q in
-        IfOk result (λ bases. map (λ base. Some base) bases.items
-        ≡ map (λ q. placed Refuse parent.now (corner q) first.now) (range_with_len 0 corners)) }
-    ensures inside { IfOk result (λ bases. All (λ base. base < size_of parent.now) bases.items) }
+        let base = λ (q : ℕ). unwrap_or (placed Zero parent.now (corner q) first.now) 0 in
+        IfOk result (λ bases. bases.items ≡ map base (range_with_len 0 corners)) }
+    ensures inside { IfOk result (λ bases. All (λ base. base ≤ size_of parent.now) bases.items) }
 {
     let len = first.len() - 1;
     let mut bases = Vec::with_capacity(alloc, corners as usize)?;
     for number in 0..corners {
         let numbers = corner_of(ind, len, number);
-        match corner_place(Edge::Refuse, parent, numbers, first) {
-            Some(base) => bases.push(base)?,
-            None => unreachable!(),
-        }
+        bases.push(corner_place(Edge::Zero, parent, numbers, first).unwrap_or(0))?;
     }
     Ok(bases)
+}
+
+/// The numbers of the corners whose windows reach beyond the parent, where these are at most a
+/// quarter of all.
+fn corners_beyond(
+    alloc: Global,
+    edge: Edge,
+    parent: &[u32],
+    windows: &[u64],
+    ind: &[i64],
+    corners: u32,
+) -> Result<Option<Vec<u32>>, NoMemory>
+    requires fit { length windows.now ≤ length parent.now }
+    requires whole { length ind.now ≡ length windows.now * corners }
+    requires allowed { AllAllowed edge parent.now windows.now ind.now }
+    ensures within { IfOk result (λ few. IfSome few (λ beyond. All (λ q. q < corners) beyond.items)) }
+    ensures inside { let corner = λ (q : ℕ). numbers_at ind.now (length windows.now) q in
+        IfOk result (λ few. IfSome few (λ beyond. (q : ℕ) → q < corners →
+        Any (λ b. b ≡ q) beyond.items ⊎ AllAllowed Refuse parent.now windows.now (corner q))) }
+{
+    let mut beyond = Vec::new(alloc);
+    if are_inside(edge, parent, windows, ind) {
+        return Ok(Some(beyond));
+    }
+    let most = corners as usize / 4;
+    for number in 0..corners {
+        let numbers = corner_of(ind, windows.len(), number);
+        if first_beyond(Edge::Refuse, parent, windows, numbers).is_some() {
+            if beyond.len() >= most {
+                return Ok(None);
+            }
+            beyond.push(number)?;
+        }
+    }
+    Ok(Some(beyond))
+}
+
+/// How far one position of a window lies past its corner's place, where the window lies inside the
+/// parent. `zeros` are the numbers of the parent's first corner. Where the position would lie beyond
+/// the parent, no window does, and the answer is 0.
+fn past_first(parent: &[u32], zeros: &[i64], at: &[u32]) -> u32
+    requires paired { length at.now ≡ length zeros.now + 1 }
+    requires fit { length zeros.now ≤ length parent.now }
+    requires bounded { extent parent.now ≤ extent_limit }
+    requires within { slice_index at.now (length zeros.now)
+        < size_of (drop (length zeros.now) parent.now) }
+    ensures bound { result ≤ size_of parent.now }
+    ensures past { result ≡ unwrap_or (placed Zero parent.now zeros.now at.now) 0 }
+{
+    corner_place(Edge::Zero, parent, zeros, at).unwrap_or(0)
 }
 
 /// Adds the places that lie so far past these.
@@ -420,73 +466,120 @@ fn push_past(places: &mut Vec<Option<u32>>, bases: &[u32], past: u32) -> Result<
     places.extend(bases.iter().map(|base| Some(*base + past)))
 }
 
-/// Adds the places of one position of the windows, which all lie inside the parent: each lies so far
-/// past its corner's as it would past the parent's first corner, whose numbers are `zeros`.
+/// Sets the places of one position of the windows at the corners `beyond` to what the edge makes of
+/// them. `places` are those of that position at all corners.
+fn set_beyond(
+    places: &mut [Option<u32>],
+    edge: Edge,
+    parent: &[u32],
+    ind: &[i64],
+    beyond: &[u32],
+    at: &[u32],
+)
+    requires some { 0 < length at.now }
+    requires fit { length at.now ≤ length parent.now + 1 }
+    requires whole { length ind.now ≡ (length at.now - 1) * length places.old }
+    requires numbers { All (λ q. q < length places.old) beyond.now }
+    requires bounded { extent parent.now ≤ extent_limit }
+    requires allowed { CanPlaceAll edge parent.now ind.now (length at.now - 1) at.now }
+    requires within { slice_index at.now (length at.now - 1)
+        < size_of (drop (length at.now - 1) parent.now) }
+    ensures set { let corner = λ (q : ℕ). numbers_at ind.now (length at.now - 1) q in
+        let place = λ (q : ℕ). placed edge parent.now (corner q) at.now in
+        All (λ q. slice_index_or places.new q None ≡ place q) beyond.now }
+    ensures others { let corner = λ (q : ℕ). numbers_at ind.now (length at.now - 1) q in
+        let place = λ (q : ℕ). placed edge parent.now (corner q) at.now in
+        (q : ℕ) → slice_index_or places.new q None ≡ place q
+        ⊎ slice_index_or places.new q None ≡ slice_index_or places.old q None }
+{
+    let len = at.len() - 1;
+    for &number in beyond {
+        let listed = corner_of(ind, len, number);
+        places[number as usize] = corner_place(edge, parent, listed, at);
+    }
+}
+
+/// Adds the places of one position of the windows. Where a window lies inside the parent, its place
+/// lies so far past its corner's as it would past the parent's first corner, whose numbers are
+/// `zeros`; the places at the corners `beyond` are found one by one.
 fn push_round(
     places: &mut Vec<Option<u32>>,
+    edge: Edge,
     parent: &[u32],
+    ind: &[i64],
     bases: &[u32],
+    beyond: &[u32],
     zeros: &[i64],
     at: &[u32],
 ) -> Result<(), NoMemory>
     requires paired { length at.now ≡ length zeros.now + 1 }
     requires fit { length zeros.now ≤ length parent.now }
+    requires whole { length ind.now ≡ length zeros.now * length bases.now }
+    requires numbers { All (λ q. q < length bases.now) beyond.now }
     requires bounded { extent parent.now ≤ extent_limit }
-    requires allowed { CanPlaceEach Refuse parent.now zeros.now at.now }
+    requires allowed { CanPlaceAll edge parent.now ind.now (length zeros.now) at.now }
     requires within { slice_index at.now (length zeros.now)
         < size_of (drop (length zeros.now) parent.now) }
-    requires small { All (λ base. base < size_of parent.now) bases.now }
-    ensures { let past = unwrap_or (placed Refuse parent.now zeros.now at.now) 0 in
+    requires small { All (λ base. base ≤ size_of parent.now) bases.now }
+    requires inside { let past = unwrap_or (placed Zero parent.now zeros.now at.now) 0 in
+        let corner = λ (q : ℕ). numbers_at ind.now (length zeros.now) q in
+        (q : ℕ) → q < length bases.now → Any (λ b. b ≡ q) beyond.now
+        ⊎ Some (slice_index bases.now q + past) ≡ placed edge parent.now (corner q) at.now }
+    ensures { let corner = λ (q : ℕ). numbers_at ind.now (length zeros.now) q in
+        let place = λ (q : ℕ). placed edge parent.now (corner q) at.now in
         OnOk result (places.new.items
-        ≡ places.old.items ++ map (λ base. Some (base + past)) bases.now) }
+        ≡ places.old.items ++ map place (range_with_len 0 (length bases.now))) }
 {
     shape_laws();
-    match corner_place(Edge::Refuse, parent, zeros, at) {
-        Some(past) => push_past(places, bases, past),
-        None => unreachable!(),
-    }
+    let from = places.len();
+    push_past(places, bases, past_first(parent, zeros, at))?;
+    set_beyond(&mut places[from..], edge, parent, ind, beyond, at);
+    Ok(())
 }
 
-/// The places of all `count` positions of the windows at `corners` corners, which all lie inside the
-/// parent, whatever the edge.
-fn places_inside(
+/// The places of all `count` positions of the windows at `corners` corners, found by sums where the
+/// corner isn't one of `beyond`.
+fn places_by_sums(
     alloc: Global,
+    edge: Edge,
     parent: &[u32],
     windows: &[u64],
     ind: &[i64],
     corners: u32,
     count: u32,
+    beyond: &[u32],
 ) -> Result<Vec<Option<u32>>, NoMemory>
+    requires some { 0 < count }
     requires fit { length windows.now ≤ length parent.now }
     requires whole { length ind.now ≡ length windows.now * corners }
     requires counts { count ≡ corners * size_of (inner_dims parent.now windows.now) }
     requires bounded { extent parent.now ≤ extent_limit }
     requires inner_bounded { extent (inner_dims parent.now windows.now) ≤ extent_limit }
-    requires allowed { AllAllowed Refuse parent.now windows.now ind.now }
+    requires allowed { AllAllowed edge parent.now windows.now ind.now }
+    requires numbers { All (λ q. q < corners) beyond.now }
+    requires within { let corner = λ (q : ℕ). numbers_at ind.now (length windows.now) q in
+        (q : ℕ) → q < corners → Any (λ b. b ≡ q) beyond.now
+        ⊎ AllAllowed Refuse parent.now windows.now (corner q) }
     ensures inside { IfOk result (λ places. AllBelow (size_of parent.now) places.items) }
-    ensures places { let positions = range_with_len 0 count in
-        IfOk result (λ places. (edge : EdgeKind) → places.items
-        ≡ map (window_place edge parent.now windows.now ind.now corners) positions) }
+    ensures places { let place = window_place edge parent.now windows.now ind.now corners in
+        IfOk result (λ places. places.items ≡ map place (range_with_len 0 count)) }
 {
     shape_laws();
-    let rounds = rounds_of(count, corners);
-    if rounds == 0 {
-        return Ok(Vec::new(alloc));
-    }
     let sizes = window_rounds(alloc, parent, windows)?;
     let mut at = vec![in alloc; 0; sizes.len()]?;
     let bases = corner_places(alloc, parent, ind, corners, &at)?;
     let zeros = vec![in alloc; 0; windows.len()]?;
     let mut places = Vec::with_capacity(alloc, count as usize)?;
-    for _round in 0..rounds {
-        push_round(&mut places, parent, &bases, &zeros, &at)?;
+    for _round in 0..rounds_of(count, corners) {
+        push_round(&mut places, edge, parent, ind, &bases, beyond, &zeros, &at)?;
         move_on(&sizes, &mut at);
     }
     Ok(places)
 }
 
 /// The places in a parent of dimensions `parent` of all `count` positions of the windows at
-/// `corners` corners.
+/// `corners` corners. A window of one position, and windows that mostly reach beyond the parent,
+/// gain nothing by sums.
 fn window_places(
     alloc: Global,
     edge: Edge,
@@ -506,9 +599,12 @@ fn window_places(
     ensures places { let place = window_place edge parent.now windows.now ind.now corners in
         IfOk result (λ places. places.items ≡ map place (range_with_len 0 count)) }
 {
-    if are_inside(edge, parent, windows, ind) {
-        places_inside(alloc, parent, windows, ind, corners, count)
-    } else {
-        places_one_by_one(alloc, edge, parent, windows, ind, corners, count)
+    if count > corners {
+        let few = corners_beyond(alloc, edge, parent, windows, ind, corners)?;
+        if let Some(beyond) = few {
+            let beyond = beyond.as_slice();
+            return places_by_sums(alloc, edge, parent, windows, ind, corners, count, beyond);
+        }
     }
+    places_one_by_one(alloc, edge, parent, windows, ind, corners, count)
 }

@@ -27,6 +27,7 @@ ghost use Rattle.pdl_scope.specs.Scope.{engine_of, arrays_of, OnlyReads};
 use crate::fault::ScopeFault;
 use crate::flows::KeptFlow;
 use crate::following::{Change, Values, assign_all, is_followed, plan_flows};
+use crate::laws::assigning_laws;
 use crate::operating::operator_named;
 use crate::reading::{ready, ready_two};
 use crate::scope::Scope;
@@ -35,11 +36,9 @@ use pdl_assign::{BLOCK, assign_blocks, assign_through, can_block, goes_through};
 use pdl_buf::{Elements, Steps};
 use pdl_engine::{ArrayId, Engine};
 use pdl_lexemes::AssignOp;
-use pdl_machine::flow_laws;
 use pdl_ops::{Keeping, values_for};
 use pdl_shape::elements_of;
 use pdl_watch::Notice;
-use pdl_world::{assignment_laws, keeping_laws, part_laws};
 use std::alloc::{AllocError, Global};
 use std::sync::ledger::Ledger;
 
@@ -184,10 +183,7 @@ impl Scope {
         ensures views { KeepsViews self.new.arrays.world self.old.arrays.world }
         ensures counted { steps.new ≤ steps.old + read_steps (engine_of self.old) target }
     {
-        assignment_laws();
-        part_laws();
-        keeping_laws();
-        flow_laws();
+        assigning_laws();
         Ok(assign_through(&mut self.engine, target, value, steps)?)
     }
 
@@ -267,10 +263,7 @@ impl Scope {
         ensures views { KeepsViews self.new.arrays.world self.old.arrays.world }
         ensures counted { steps.new ≤ steps.old + size_of (dims_in self.old.arrays.world target) }
     {
-        assignment_laws();
-        part_laws();
-        keeping_laws();
-        flow_laws();
+        assigning_laws();
         match assign_blocks(&mut self.engine, sign, target, value, steps) {
             Ok(()) => Ok(()),
             Err(fault) => Err(ScopeFault::from(fault)),
@@ -305,10 +298,7 @@ impl Scope {
             steps.new ≤ steps.old + (read_steps e target + read_steps e value)
             + size_of (dims_in e.world target) }
     {
-        assignment_laws();
-        part_laws();
-        keeping_laws();
-        flow_laws();
+        assigning_laws();
         let listed = Keeping::Listed;
         let found = written(
             self.alloc,
@@ -361,10 +351,7 @@ impl Scope {
             steps.new ≤ steps.old + (read_steps e target + read_steps e value) + watched + size
             + following_steps e flows size after }
     {
-        assignment_laws();
-        part_laws();
-        keeping_laws();
-        flow_laws();
+        assigning_laws();
         let is_read = self.has_followers(target);
         let found = written(
             self.alloc,

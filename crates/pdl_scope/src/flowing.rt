@@ -29,6 +29,7 @@ ghost use Rattle.pdl_scope.specs.declared.fault.ScopeFault.TheVariants.{NoMemory
 use crate::fault::ScopeFault;
 use crate::flows::KeptFlow;
 use crate::holding::{bind_one, note_all, release_all};
+use crate::laws::leaving_laws;
 use crate::limits::MOST_READS;
 use crate::scope::Scope;
 use crate::watching::is_watched;
@@ -36,8 +37,8 @@ use pdl_buf::Steps;
 use pdl_elem::Name;
 use pdl_engine::{ArrayId, Engine, hold_laws};
 use pdl_flow::{Formula, meaning_laws};
-use pdl_machine::{Fault, flow_laws, numbering_laws, reaching_laws};
-use pdl_world::{breaking_laws, growth_laws, keeping_laws, newest_laws, sweep_laws};
+use pdl_machine::{Fault, flow_laws};
+use pdl_world::{growth_laws, keeping_laws, newest_laws};
 use std::alloc::AllocError;
 use std::sync::ledger::Ledger;
 
@@ -323,11 +324,7 @@ pub(crate) fn let_all_go<L: Ledger>(
         KeepsNeeded staying engine.old flows.old.items engine.new flows.new.items }
     ensures goes_on { GoesOn engine.old engine.new steps.old steps.new }
 {
-    sweep_laws();
-    breaking_laws();
-    numbering_laws();
-    reaching_laws();
-    hold_laws();
+    leaving_laws();
     engine.holds_law();
     let may_go = have_flow(engine, flows, leaving);
     release_all(engine, leaving, steps);
@@ -364,11 +361,7 @@ fn let_flows_go<L: Ledger>(engine: &mut Engine, flows: &mut Vec<KeptFlow>, steps
         KeepsNeeded staying first flows.old.items engine.new flows.new.items }
     ensures goes_on { GoesOn engine.old engine.new steps.old steps.new }
 {
-    sweep_laws();
-    keeping_laws();
-    breaking_laws();
-    numbering_laws();
-    reaching_laws();
+    leaving_laws();
     let mut left = flows.len();
     'going: while left > 0 {
         left -= 1;

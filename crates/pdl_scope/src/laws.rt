@@ -1,8 +1,19 @@
-//! Laws of what arrays cost.
+//! Laws of what arrays cost, and laws of the crates below, joined.
+ghost use Rattle.pdl_world.specs.BaseLaws.{AssignmentsLeaveBases};
+ghost use Rattle.pdl_world.specs.BreakLaws.{BelowLaws};
+ghost use Rattle.pdl_world.specs.Laws.{AssignsSoundly, LooksStay, NewIsLive, NumbersStay, OlderStay, OlderElementsStay, OlderPathsStay, PathsStay, Reads};
+ghost use Rattle.pdl_world.specs.KeepingLaws.{AssignsKeepAll, MoreKeepAll, NewestKeepsAll, ParentsAreLive};
+ghost use Rattle.pdl_world.specs.PartLaws.{PartsLeaveOthers, WholesAreParts};
+ghost use Rattle.pdl_world.specs.SweepLaws.{KeptWereReached, ReachedAreSeenAsBefore};
+ghost use Rattle.pdl_machine.specs.FlowLaws.{FlowsFollow, FlowsStay, LettingGoKeepsFlows, OnlyAffectedFollow};
+ghost use Rattle.pdl_machine.specs.Laws.{PathsReach, SettlingUnseen, SweepsByFewer};
+ghost use Rattle.pdl_engine.specs.HoldLaws.{OneMoreCounts, OthersDontCount};
 ghost use Rattle.pdl_scope.specs.FlowCosts.{GrowingMakesNoFlowDearer};
 ghost use Rattle.pdl_scope.specs.Costs.{GrowingLosesNothing, GrowingMakesNoneDearer, NewArraysGoUnwritten, NewRootsAreReady, NewRootsMoveTheirSize, NewViewsAddTheirSize, NewViewsCostTheirSize};
 
 use pdl_engine::hold_laws;
+use pdl_machine::{flow_laws, numbering_laws, reaching_laws};
+use pdl_world::{assignment_laws, breaking_laws, growth_laws, keeping_laws, part_laws, sweep_laws};
 
 /// What arrays that come do to what it takes to make arrays ready: those that were there take no
 /// more, nor do flows that follow an assignment; a new root takes nothing, and a new view what its
@@ -20,5 +31,77 @@ pub fn cost_laws()
     ensures grown { GrowingLosesNothing }
     ensures unwritten { NewArraysGoUnwritten }
 {
+    hold_laws();
+}
+
+/// What an array that comes leaves as it was, of the laws of the crates below, in one call. It does
+/// nothing when it runs.
+pub(crate) fn joining_laws()
+    ensures live { NewIsLive }
+    ensures older { OlderStay }
+    ensures older_elements { OlderElementsStay }
+    ensures older_paths { OlderPathsStay }
+    ensures newest { NewestKeepsAll }
+    ensures more { MoreKeepAll }
+    ensures stay { FlowsStay }
+    ensures others { OthersDontCount }
+{
+    growth_laws();
+    keeping_laws();
+    flow_laws();
+    hold_laws();
+}
+
+/// What an assignment leaves as it was, and what follows it, of the laws of the crates below, in one
+/// call. It does nothing when it runs.
+pub(crate) fn assigning_laws()
+    ensures looks { LooksStay }
+    ensures paths { PathsStay }
+    ensures numbers { NumbersStay }
+    ensures reads { Reads }
+    ensures sound { AssignsSoundly }
+    ensures bases { AssignmentsLeaveBases }
+    ensures wholes { WholesAreParts }
+    ensures others { PartsLeaveOthers }
+    ensures keeps { AssignsKeepAll }
+    ensures follow { FlowsFollow }
+    ensures affected { OnlyAffectedFollow }
+{
+    assignment_laws();
+    part_laws();
+    keeping_laws();
+    flow_laws();
+}
+
+/// What one more hold of an array does, of the laws of the crates below, in one call. It does nothing
+/// when it runs.
+pub(crate) fn holding_laws()
+    ensures more { MoreKeepAll }
+    ensures parents { ParentsAreLive }
+    ensures counts { OneMoreCounts }
+{
+    keeping_laws();
+    hold_laws();
+}
+
+/// What letting go leaves as it was, of the laws of the crates below, in one call. It does nothing
+/// when it runs.
+pub(crate) fn leaving_laws()
+    ensures kept { KeptWereReached }
+    ensures seen { ReachedAreSeenAsBefore }
+    ensures below { BelowLaws }
+    ensures more { MoreKeepAll }
+    ensures again { SweepsByFewer }
+    ensures settled { SettlingUnseen }
+    ensures paths { PathsReach }
+    ensures flows { LettingGoKeepsFlows }
+    ensures others { OthersDontCount }
+{
+    sweep_laws();
+    breaking_laws();
+    keeping_laws();
+    numbering_laws();
+    reaching_laws();
+    flow_laws();
     hold_laws();
 }

@@ -26,13 +26,14 @@ use crate::flowing::let_all_go;
 use crate::flows::KeptFlow;
 use crate::holding::{bind_all, hold_for_name, note, note_some};
 use crate::kernels::{DefinedKernel, Kernels};
+use crate::laws::{holding_laws, joining_laws, leaving_laws};
 use crate::names::Names;
 use pdl_buf::{Elements, Made, Steps};
 use pdl_elem::{Name, Ty};
-use pdl_engine::{ArrayId, Engine, hold_laws};
-use pdl_machine::{Fault, flow_laws, numbering_laws};
+use pdl_engine::{ArrayId, Engine};
+use pdl_machine::Fault;
 use pdl_shape::Dims;
-use pdl_world::{Trans, growth_laws, keeping_laws, sweep_laws};
+use pdl_world::Trans;
 use std::alloc::Global;
 use std::marker::Model;
 use std::sync::ledger::Ledger;
@@ -175,10 +176,7 @@ impl Scope {
         ensures roots { KeepsViews self.new.arrays.world self.old.arrays.world }
         ensures counted { steps.new ≤ steps.old + count_moved elems }
     {
-        growth_laws();
-        keeping_laws();
-        flow_laws();
-        hold_laws();
+        joining_laws();
         self.engine.holds_law();
         self.leaving.reserve(1)?;
         let id = self.engine.make(ty, dims, elems, steps)?;
@@ -228,10 +226,7 @@ impl Scope {
             Evaluates (new_view self.old.arrays parent trans refusal) self.new result }
         ensures grown { Grows self.old self.new }
     {
-        growth_laws();
-        keeping_laws();
-        flow_laws();
-        hold_laws();
+        joining_laws();
         self.engine.holds_law();
         self.leaving.reserve(1)?;
         let id = self.engine.view(parent, trans)?;
@@ -246,8 +241,7 @@ impl Scope {
             Runs wanted self.old self.new [] [] result }
         ensures arrays { self.new.arrays ≡ self.old.arrays }
     {
-        keeping_laws();
-        hold_laws();
+        holding_laws();
         self.engine.holds_law();
         self.leaving.reserve(1)?;
         let had = self.names.bind(name, id)?;
@@ -310,10 +304,7 @@ impl Scope {
         ensures written { let e = engine_of self.old in
             steps.new ≤ steps.old + written_back e self.new.arrays.world e.world }
     {
-        numbering_laws();
-        flow_laws();
-        sweep_laws();
-        keeping_laws();
+        leaving_laws();
         self.engine.lazy_law();
         let_all_go(&mut self.engine, &mut self.flows, &self.leaving, steps);
         self.leaving.clear();

@@ -21,9 +21,10 @@ use crate::fault::ScopeFault;
 use crate::flows::KeptFlow;
 use crate::following::{Change, find_change};
 use crate::holding::note_some;
+use crate::laws::holding_laws;
 use crate::scope::Scope;
 use pdl_buf::Steps;
-use pdl_engine::{ArrayId, Engine, hold_laws};
+use pdl_engine::{ArrayId, Engine};
 use pdl_machine::watching_laws;
 use pdl_shape::elements_of;
 use pdl_watch::{Notice, change_laws, changes};
@@ -50,8 +51,7 @@ impl Scope {
             let wanted = Ok (record (machine self.old) { watches = watches }, []) in
             Runs wanted self.old self.new [] [] result }
     {
-        keeping_laws();
-        hold_laws();
+        holding_laws();
         self.engine.holds_law();
         attach(&mut self.watches, slot, id)?;
         self.engine.hold(id);

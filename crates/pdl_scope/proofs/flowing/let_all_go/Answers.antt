@@ -15,7 +15,7 @@ have_flow-may_go-requires-clause-rising g c =
 pub have_flow-may_go-requires-clause-live : goal.have_flow-may_go-requires-clause-live
 have_flow-may_go-requires-clause-live g c =
     let h = c.requires.held in
-    leaving_live c.hold_laws.ensures.others c.args.engine.now (h.staying ++ all_read c.args.flows.now.items) c.args.leaving.now c.holds_law.ensures.each h.held
+    leaving_live c.leaving_laws.ensures.others c.args.engine.now (h.staying ++ all_read c.args.flows.now.items) c.args.leaving.now c.holds_law.ensures.each h.held
 
 pub release_all-requires : goal.release_all-requires
 release_all-requires g c = record { staying = c.requires.held.staying ++ all_read c.args.flows.now.items; held = c.requires.held.held }
@@ -42,11 +42,11 @@ returns-else-may_go-clause-needed g c = λ staying held.
     let e = c.args.engine.now in
     let fs = c.args.flows.now.items in
     let laws : Laws = record {
-      below = c.breaking_laws.ensures.below;
-      paths = c.reaching_laws.ensures.paths;
-      kept = c.sweep_laws.ensures.kept;
-      reached = c.sweep_laws.ensures.seen;
-      again = c.numbering_laws.ensures.again;
+      below = c.leaving_laws.ensures.below;
+      paths = c.leaving_laws.ensures.paths;
+      kept = c.leaving_laws.ensures.kept;
+      reached = c.leaving_laws.ensures.seen;
+      again = c.leaving_laws.ensures.again;
     } in
     let had : HasFlows c.release_all.new.engine fs staying e =
     record { sound = held.sound; flows = c.requires.flows; lets_go = c.release_all.ensures.lets_go (staying ++ all_read fs) held } in

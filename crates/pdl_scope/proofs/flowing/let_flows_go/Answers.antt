@@ -31,7 +31,7 @@ going-preserved g c =
     let some : 0 < c.going.left = omega arith in
     let next : c.going.left ≡ i + 1 = omega (arith, some) in
     let lt : i < length fs = omega (arith, some, c.going.invariant.within) in
-    let laws : Laws = record { below = c.breaking_laws.ensures.below; paths = c.reaching_laws.ensures.paths; kept = c.sweep_laws.ensures.kept; reached = c.sweep_laws.ensures.seen; again = c.numbering_laws.ensures.again } in
+    let laws : Laws = record { below = c.leaving_laws.ensures.below; paths = c.leaving_laws.ensures.paths; kept = c.leaving_laws.ensures.kept; reached = c.leaving_laws.ensures.seen; again = c.leaving_laws.ensures.again } in
     record {
       within = omega (arith, lt);
       asked = λ staying first had.

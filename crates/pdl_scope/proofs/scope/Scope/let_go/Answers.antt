@@ -42,7 +42,7 @@ invariant_of-self g c =
     let n = needs_of e.world fs vs in
     let left = c.let_all_go.new.flows.items in
     let sound = c.self.invariant.whole.sound in
-    let world = needed_world c.numbering_laws.ensures.again c.keeping_laws.ensures.more vs e fs t left needed in
+    let world = needed_world c.leaving_laws.ensures.again c.leaving_laws.ensures.more vs e fs t left needed in
     let many = vs ++ all_read left in
     let gone = all_gone many e t needed.lets_go in
     let L : List ℕ → Type 0 = λ us. IsHeld (state_in names ws left t) t.holds us in
@@ -50,9 +50,9 @@ invariant_of-self g c =
       whole = record {
         sound = needed.lets_go.is_held.sound;
         below = needed.lets_go.is_held.below;
-        live = staying_live c.sweep_laws.ensures.seen e.world t.world many sound gone vs (λ v h. listed_front vs (all_read left) v h) c.self.invariant.whole.live;
+        live = staying_live c.leaving_laws.ensures.seen e.world t.world many sound gone vs (λ v h. listed_front vs (all_read left) v h) c.self.invariant.whole.live;
         flows = (subst (λ (hs : Flows). AreFlows (arrays_of t) hs) (sym needed.flows)
-            (c.flow_laws.ensures.kept (arrays_of e) (arrays_of t) fs vs n.arrays sound c.self.invariant.whole.flows world (λ v h. h)));
+            (c.leaving_laws.ensures.flows (arrays_of e) (arrays_of t) fs vs n.arrays sound c.self.invariant.whole.flows world (λ v h. h)));
       };
       few = c.self.invariant.few;
       slots = c.self.invariant.slots;
@@ -76,13 +76,13 @@ returns-clause-gone g c =
     let held = subst P (sym c.deref.ensures.value) (held_beside names ws fs e c.self.inside.leaving.items c.self.invariant) in
     let needed = c.let_all_go.ensures.needed vs held in
     let n = needs_of e.world fs vs in
-    let world = needed_world c.numbering_laws.ensures.again c.keeping_laws.ensures.more vs e fs t left needed in
+    let world = needed_world c.leaving_laws.ensures.again c.leaving_laws.ensures.more vs e fs t left needed in
     let state : Flows → World → ℕ → State = λ hs w next. record { names = names; arrays = record { world = w; next = next }; watches = ws; flows = hs } in
     ap (λ hs. state hs t.world t.next) needed.flows ∙ ap (λ w. state n.flows w t.next) world ∙ ap (state n.flows (kept (state_in names ws fs e))) needed.lets_go.next
     ∙ ap (λ (s : Seen). swept (machine s)) c.self.view_is
 
 pub returns-clause-unseen : goal.returns-clause-unseen
-returns-clause-unseen g c = ap tidy (returns-clause-gone g c) ∙ c.numbering_laws.ensures.settled (machine c.args.self.now)
+returns-clause-unseen g c = ap tidy (returns-clause-gone g c) ∙ c.leaving_laws.ensures.settled (machine c.args.self.now)
 
 pub returns-clause-stay : goal.returns-clause-stay
 returns-clause-stay g c =
