@@ -7,7 +7,7 @@ ghost use Rattle.pdl_numbers.specs.Reads.{LieAcross, across};
 
 use crate::ranges::strided_is_in_range;
 use crate::window::{Strided, strided_dims};
-use pdl_numbers::{Run, shown_laws};
+use pdl_numbers::{Folding, Run, shown_laws};
 use pdl_shape::{dims_list, incs_list};
 
 /// Shorter columns than this are read as well one by one.
@@ -40,21 +40,22 @@ pub fn strided_run<'a>(from: &Strided<'a>, first: u32) -> Run<'a>
     buf.numbers.run(&from.placement, first)
 }
 
-/// Sets each element of `into` to one of the window's elements along dimension 1: that at position
-/// `first`, and then those so far apart as dimension 0 is long. They are there, in one plane.
-pub fn strided_read_across(from: &Strided<'_>, first: u32, into: &mut [i64])
+/// Takes one of the window's elements along dimension 1 into each of what others before it come to:
+/// that at position `first`, and then those so far apart as dimension 0 is long. They are there, in
+/// one plane. Each is read where it stands.
+pub fn strided_take_across<F: Folding>(from: &Strided<'_>, first: u32, so_far: &mut [i64])
     requires some { first < length from.now.elems }
-    requires small { length into.old ≤ extent_limit }
-    requires along { LieAcross from.now.dims first (length into.old) }
-    requires within { (k : ℕ) → k < length into.old →
+    requires small { length so_far.old ≤ extent_limit }
+    requires along { LieAcross from.now.dims first (length so_far.old) }
+    requires within { (k : ℕ) → k < length so_far.old →
         across from.now.dims first k < length from.now.elems }
-    ensures value { (k : ℕ) → k < length into.old →
-        get_or into.new k (pos 0) ≡ get_or from.now.elems (across from.now.dims first k) (pos 0) }
-    ensures in_range { All (InRange from.now.ty) into.new }
+    ensures { (k : ℕ) → k < length so_far.old →
+        let number = get_or from.now.elems (across from.now.dims first k) (pos 0) in
+        get_or so_far.new k (pos 0) ≡ F.taken (get_or so_far.old k (pos 0)) number }
 {
     shown_laws();
     let buf = from.buf;
-    buf.numbers.read_across(&from.placement, first, into)
+    buf.numbers.take_across::<F>(&from.placement, first, so_far)
 }
 
 /// Whether elements along dimension 1 lie closer together in the buffer than along dimension 0, so

@@ -1,10 +1,10 @@
 -- The places of windows of which some lie inside their parent.
-use Rattle.std.proofs.Common.{◌≡◌, ◌⊎◌, inl, inr, ℕ, ◌+◌, ◌*◌, ◌/◌, ◌%◌, ◌<◌, ◌≤◌, max, List, [], ◌∷◌, length, drop, map, get_or, false, not, nat_le, replicate, refl, ap, ap₂, sym, ◌∙◌, subst, arith, Some, None, ℤ, pos, negsuc, suc, ◌+ℤ◌, mod-lt, zero-add}
+use Rattle.std.proofs.Common.{◌≡◌, ◌⊎◌, inl, inr, ℕ, ◌+◌, ◌*◌, ◌/◌, ◌%◌, ◌<◌, ◌≤◌, max, List, [], ◌∷◌, length, drop, map, get_or, IsTrue, false, not, nat_le, nat_lt, ◌-◌, replicate, refl, ap, ap₂, sym, ◌∙◌, subst, arith, Some, None, ℤ, pos, negsuc, suc, ◌+ℤ◌, mod-lt, zero-add}
 use Rattle.std.specs.List.{Any, range_with_len}
 use Rattle.std.proofs.lemmas.List.{get_or-drop, get_or-replicate, get_or-take, length-replicate}
-use Rattle.std.proofs.lemmas.List.FromFn.{get_or-map-range_with_len}
+use Rattle.std.proofs.lemmas.List.FromFn.{get_or-map-range_with_len, length-map-range_with_len}
 use Rattle.std.proofs.lemmas.Nat.{div_below}
-use Rattle.std.proofs.Math.Nat.{mod-eq_of_lt, mul-add-mod_self_left}
+use Rattle.std.proofs.Math.Nat.{mod-add-div, mod-eq_of_lt, mul-add-mod_self_left}
 use Rattle.std.proofs.lemmas.Bool.Decides.{nat_tests}
 use Rattle.std.specs.Prelude.{IfSome, Option}
 use Rattle.std.specs.Option.{option_map, unwrap_or}
@@ -14,15 +14,16 @@ use Rattle.pdl_shape.specs.Places.{AllBelow}
 use Rattle.pdl_shape.specs.Shape.{IsWithin, coordinates_of, position_of, size_of}
 use Rattle.pdl_choice.specs.declared.edges.Edge.{Edge}
 use Rattle.pdl_choice.specs.declared.edges.Edge.TheVariants.{Refuse, Zero}
-use Rattle.pdl_choice.specs.Edges.{edge_coordinate, edge_refuses}
+use Rattle.pdl_choice.specs.Edges.{edge_coordinate, edge_refuses, is_within, start_count}
 use Rattle.pdl_choice.specs.Range.{AllAllowed, inner_dims, window_source}
-use Rattle.pdl_choice.specs.Rounds.{numbers_at, place_first, placed, window_place}
+use Rattle.pdl_choice.specs.Rounds.{AreKnown, StandsAt, numbers_at, place_first, placed, window_place, window_starts}
 use Rattle.pdl_choice.proofs.EdgeLemmas.{inside_edge}
 use Rattle.pdl_choice.proofs.IndexInside.{all_inside}
 use Rattle.pdl_choice.proofs.RangePlaces.{length-corner}
 use Rattle.pdl_choice.proofs.RangeSources.{window_within}
 use Rattle.pdl_choice.proofs.RoundsWindows.{AtWindow}
 use Rattle.pdl_choice.proofs.ShapeBounds.{corner_fits}
+use Rattle.pdl_choice.proofs.ShapePositions.{positive_left}
 
 -- a coordinate before the place of the others, where both are
 place_parts : (P : Type 0) (n c : ℕ) (rest : Option ℕ) (b : ℕ) → place_first n (Some c) rest ≡ Some b → ((p : ℕ) → rest ≡ Some p → c + n * p ≡ b → P) → P
@@ -85,21 +86,40 @@ placed_some edge (n ∷ parent) (v ∷ corner) (c ∷ at) inside =
     let rest = placed_some edge parent corner at (λ j h. inside (suc j) (omega arith)) in
     some_is (place_first n (edge_coordinate edge n (v +ℤ pos c)) (placed edge parent corner at)) _ (ap₂ (λ (u r : Option ℕ). place_first n u r) (sym coordinate) rest)
 
--- what an edge that refuses doesn't, lies inside
-inside_window : (n w : ℕ) (v : ℤ) (c : ℕ) → edge_refuses Refuse n w v ≡ false → c < max w 1 → IsInside n v c
-inside_window n w (pos a) c allowed below = record { number = a; is = refl; below = within n (a + max w 1) (a + c) allowed (omega arith) }
+-- a number that a window may begin at, and those of its positions, lie inside
+inside_start : (n w : ℕ) (v : ℤ) (c : ℕ) → IsTrue (is_within (start_count n w) v) → c < max w 1 → IsInside n v c
+inside_start n w (pos a) c within below = record { number = a; is = refl; below = fits n w a c within below }
   where
-    within : (n m k : ℕ) → not (nat_le m n) ≡ false → k < m → k < n
-    within n m k allowed below = grind (arith, nat_tests)
-inside_window n w (negsuc a) c allowed below = cc
+    fits : (n w a c : ℕ) → IsTrue (nat_lt a (n - (w - 1))) → c < max w 1 → a + c < n
+    fits n w a c within below = grind (arith, nat_tests)
+inside_start n w (negsuc a) c within below = absurd (cc)
+
+-- and no edge refuses the window
+start_allowed : (n w : ℕ) (v : ℤ) → IsTrue (is_within (start_count n w) v) → edge_refuses Refuse n w v ≡ false
+start_allowed n w (pos a) within = fits n w a within
+  where
+    fits : (n w a : ℕ) → IsTrue (nat_lt a (n - (w - 1))) → not (nat_le (a + max w 1) n) ≡ false
+    fits n w a within = grind (arith, nat_tests)
+start_allowed n w (negsuc a) within = absurd (cc)
+
+-- the windows' starts, one for each
+pub length-window_starts : (parent windows : List ℕ) → length (window_starts parent windows) ≡ length windows
+length-window_starts parent windows = length-map-range_with_len (λ j. start_count (get_or parent j 0) (get_or windows j 0)) 0 (length windows)
+
+pub window_start-at : (parent windows : List ℕ) (j : ℕ) → j < length windows → get_or (window_starts parent windows) j 0 ≡ start_count (get_or parent j 0) (get_or windows j 0)
+window_start-at parent windows j h = get_or-map-range_with_len (λ j. start_count (get_or parent j 0) (get_or windows j 0)) 0 (length windows) j j 0 h (zero-add j)
+
+-- no more than the parent's size
+pub window_start-below : (parent windows : List ℕ) (j : ℕ) → j < length (window_starts parent windows) → get_or (window_starts parent windows) j 0 ≤ get_or parent j 0
+window_start-below parent windows j h = omega (arith, window_start-at parent windows j (omega (arith, h, length-window_starts parent windows)))
 
 -- so do all numbers of a corner and those of a position of its window
-inside_at : (parent windows : List ℕ) (corner : List ℤ) (at : List ℕ) (len : ℕ) → AtWindow parent windows at len → AllAllowed Refuse parent windows corner → length corner ≡ length windows
+inside_at : (parent windows : List ℕ) (corner : List ℤ) (at : List ℕ) (len place : ℕ) → AtWindow parent windows at len → StandsAt parent (window_starts parent windows) corner place → length corner ≡ length windows
     → (j : ℕ) → j < length corner → IsInside (get_or parent j 0) (get_or corner j (pos 0)) (get_or at j 0)
-inside_at parent windows corner at len a allowed paired j h =
+inside_at parent windows corner at len place a stands paired j h =
     let inner : j < length windows = omega arith in
-    inside_window (get_or parent j 0) (get_or windows j 0) (get_or corner j (pos 0)) (get_or at j 0)
-    (ap (λ i. edge_refuses Refuse (get_or parent i 0) (get_or windows i 0) (get_or corner j (pos 0))) (sym (mod-eq_of_lt inner)) ∙ allowed j h)
+    inside_start (get_or parent j 0) (get_or windows j 0) (get_or corner j (pos 0)) (get_or at j 0)
+    (subst (λ (n : ℕ). IsTrue (is_within n (get_or corner j (pos 0)))) (window_start-at parent windows j inner) (stands.inside j h))
     (a.below j inner)
 
 -- a number of a list of zeros
@@ -131,32 +151,51 @@ round_left parent windows zeros at len a o =
     subst (λ (n : ℕ). get_or at n 0 < size_of (drop n parent)) (a.len_is ∙ sym (many_zeros zeros (length windows) o)) a.left
 
 -- the place of one position of a window inside, from its corner's
-pub corner_past : (edge : Edge) (parent windows : List ℕ) (corner zeros : List ℤ) (first at : List ℕ) (len n : ℕ) → AtWindow parent windows first len → AtWindow parent windows at len
-    → AllAllowed Refuse parent windows corner → length corner ≡ length windows → zeros ≡ replicate (length windows) (pos 0) → first ≡ replicate n 0
-    → Some (unwrap_or (placed Zero parent corner first) 0 + unwrap_or (placed Zero parent zeros at) 0) ≡ placed edge parent corner at
-corner_past edge parent windows corner zeros first at len n f a allowed paired o first_is =
+corner_past : (edge : Edge) (parent windows : List ℕ) (corner zeros : List ℤ) (at : List ℕ) (len base : ℕ) → AtWindow parent windows at len → StandsAt parent (window_starts parent windows) corner base
+    → length corner ≡ length windows → zeros ≡ replicate (length windows) (pos 0) → Some (base + unwrap_or (placed Zero parent zeros at) 0) ≡ placed edge parent corner at
+corner_past edge parent windows corner zeros at len base a stands paired o =
     let same : length zeros ≡ length corner = many_zeros zeros (length windows) o ∙ sym paired in
-    let inside : (j : ℕ) → j < length corner → IsInside (get_or parent j 0) (get_or corner j (pos 0)) (get_or at j 0) = inside_at parent windows corner at len a allowed paired in
-    sym (placed_past edge Zero parent corner zeros at first (unwrap_or (placed Zero parent corner first) 0) (unwrap_or (placed Zero parent zeros at) 0)
-    same (f.long ∙ sym a.long)
-    (λ j below. zero_at zeros (length windows) j (pos 0) o below) (λ j below. zero_at first n j 0 first_is below)
-    inside
-    (placed_some Zero parent corner first (inside_at parent windows corner first len f allowed paired))
+    let first : List ℕ = replicate (length corner + 1) 0 in
+    let long : length first ≡ length corner + 1 = length-replicate {A = ℕ} (length corner + 1) 0 in
+    let inside : (j : ℕ) → j < length corner → IsInside (get_or parent j 0) (get_or corner j (pos 0)) (get_or at j 0) = inside_at parent windows corner at len base a stands paired in
+    sym (placed_past edge Zero parent corner zeros at first base (unwrap_or (placed Zero parent zeros at) 0)
+    same (omega (arith, long, paired, a.long))
+    (λ j below. zero_at zeros (length windows) j (pos 0) o below) (λ j below. zero_at first (length corner + 1) j 0 refl below)
+    inside stands.is
     (placed_some Zero parent zeros at (λ j h. record { number = 0; is = zero_at zeros (length windows) j (pos 0) o h; below = omega (arith, (inside j (omega arith)).below) })))
 
 -- so each window reaches beyond, or has its place from its corner's
-pub round_each : (edge : Edge) (parent windows : List ℕ) (ind zeros : List ℤ) (first at bases beyond : List ℕ) (len corners n : ℕ) → AtWindow parent windows first len → AtWindow parent windows at len
-    → length ind ≡ length windows * corners → zeros ≡ replicate (length windows) (pos 0) → first ≡ replicate n 0
-    → bases ≡ map (λ q. unwrap_or (placed Zero parent (numbers_at ind (length windows) q) first) 0) (range_with_len 0 corners)
-    → ((q : ℕ) → q < corners → Any (λ b. b ≡ q) beyond ⊎ AllAllowed Refuse parent windows (numbers_at ind (length windows) q))
-    → (q : ℕ) → q < corners → Any (λ b. b ≡ q) beyond ⊎ Some (get_or bases q 0 + unwrap_or (placed Zero parent zeros at) 0) ≡ placed edge parent (numbers_at ind (length windows) q) at
-round_each edge parent windows ind zeros first at bases beyond len corners n f a whole o first_is is each q h =
-    elim (each q h) [
+pub round_each : (edge : Edge) (parent windows : List ℕ) (ind zeros : List ℤ) (at bases beyond : List ℕ) (len : ℕ) → AtWindow parent windows at len
+    → length ind ≡ length windows * length bases → zeros ≡ replicate (length windows) (pos 0) → AreKnown parent (window_starts parent windows) ind bases beyond
+    → (q : ℕ) → q < length bases → Any (λ b. b ≡ q) beyond ⊎ Some (get_or bases q 0 + unwrap_or (placed Zero parent zeros at) 0) ≡ placed edge parent (numbers_at ind (length windows) q) at
+round_each edge parent windows ind zeros at bases beyond len a whole o known q h =
+    elim (known.each q h) [
       | inl listed ↦ inl listed
-      | inr allowed ↦ inr (
-          ap (λ (b : ℕ). Some (b + unwrap_or (placed Zero parent zeros at) 0))
-          (ap (λ (bs : List ℕ). get_or bs q 0) is ∙ get_or-map-range_with_len (λ q. unwrap_or (placed Zero parent (numbers_at ind (length windows) q) first) 0) 0 corners q q 0 h (zero-add q))
-          ∙ corner_past edge parent windows (numbers_at ind (length windows) q) zeros first at len n f a allowed (many_numbers windows ind corners q whole h) o first_is)
+      | inr stands ↦ inr (corner_past edge parent windows (numbers_at ind (length windows) q) zeros at len (get_or bases q 0) a
+          (subst (λ (n : ℕ). StandsAt parent (window_starts parent windows) (numbers_at ind n q) (get_or bases q 0)) (length-window_starts parent windows) stands)
+          (many_numbers windows ind (length bases) q whole h) o)
+    ]
+
+-- where none is listed, no edge refuses a window
+pub known_allowed : (parent windows : List ℕ) (ind : List ℤ) (bases beyond : List ℕ) → length ind ≡ length windows * length bases → AreKnown parent (window_starts parent windows) ind bases beyond → beyond ≡ []
+    → AllAllowed Refuse parent windows ind
+known_allowed parent windows ind bases beyond whole known none k h =
+    let len : ℕ = length windows in
+    let some : 0 < len = positive_left len (length bases) k (omega arith) in
+    let q : k / len < length bases = div_below k len (length bases) some (omega arith) in
+    let low : k % len < len = mod-lt k some in
+    let corner : List ℤ = numbers_at ind len (k / len) in
+    let paired : length corner ≡ len = many_numbers windows ind (length bases) (k / len) whole q in
+    let value : get_or corner (k % len) (pos 0) ≡ get_or ind k (pos 0) =
+    get_or-take len (drop (len * (k / len)) ind) (k % len) (pos 0) low ∙ get_or-drop (len * (k / len)) ind (k % len) (pos 0)
+    ∙ ap (λ (i : ℕ). get_or ind i (pos 0)) (omega (arith, mod-add-div k len)) in
+    elim (known.each (k / len) q) [
+      | inl listed ↦ absurd (omega (arith, listed.2, ap length none))
+      | inr stands ↦
+          start_allowed (get_or parent (k % len) 0) (get_or windows (k % len) 0) (get_or ind k (pos 0))
+          (subst (λ (v : ℤ). IsTrue (is_within (start_count (get_or parent (k % len) 0) (get_or windows (k % len) 0)) v)) value
+          (subst (λ (n : ℕ). IsTrue (is_within n (get_or corner (k % len) (pos 0)))) (window_start-at parent windows (k % len) low)
+          ((subst (λ (n : ℕ). StandsAt parent (window_starts parent windows) (numbers_at ind n (k / len)) (get_or bases (k / len) 0)) (length-window_starts parent windows) stands).inside (k % len) (omega (arith, paired)))))
     ]
 
 below_some : (parent : List ℕ) (o : Option (List ℕ)) → PositionLaws → IfSome o (IsWithin parent) → IfSome (option_map (position_of parent) o) (λ p. p < size_of parent)

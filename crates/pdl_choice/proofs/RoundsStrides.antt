@@ -1,7 +1,7 @@
 -- The place of a corner, one of its numbers after another.
-use Rattle.std.proofs.Common.{◌≡◌, ℕ, ◌+◌, ◌*◌, ◌<◌, ◌≤◌, List, [], ◌∷◌, length, take, drop, get_or, refl, ap, sym, ◌∙◌, arith, Option, Some, None, ℤ, pos, ◌+ℤ◌}
+use Rattle.std.proofs.Common.{◌≡◌, ℕ, ◌+◌, ◌*◌, ◌<◌, ◌≤◌, List, [], ◌∷◌, length, take, drop, get_or, replicate, refl, ap, sym, ◌∙◌, arith, Option, Some, None, ℤ, pos, ◌+ℤ◌}
 use Rattle.std.specs.Option.{option_map}
-use Rattle.std.proofs.lemmas.List.{at_drop_more, take_more, take-append-drop}
+use Rattle.std.proofs.lemmas.List.{at_drop_all, at_drop_more, get_or-replicate, length-replicate, take_more, take-append-drop}
 use Rattle.pdl_lemmas.specs.Numbers.{row_place_below}
 use Rattle.pdl_shape.specs.Laws.{SizeLaws}
 use Rattle.pdl_shape.specs.Shape.{extent, extent_limit, size_of}
@@ -72,3 +72,16 @@ placing_ended j place stride edge parent corner at end long within p =
     let front : stride ≡ size_of (take (length corner) parent) = p.stride_is ∙ ap (λ n. size_of (take n parent)) same in
     let split : size_of (take (length corner) parent) * size_of (drop (length corner) parent) ≡ size_of parent = sym (size_of-append (take (length corner) parent) (drop (length corner) parent)) ∙ ap size_of (take-append-drop (length corner) parent) in
     omega (arith, row_place_below stride (size_of (drop (length corner) parent)) place (get_or at (length corner) 0) p.below within, ap (λ n. n * size_of (drop (length corner) parent)) front, split)
+
+-- where no dimensions are left, it is the place
+pub placing_stops : (j place stride : ℕ) (edge : Edge) (parent : List ℕ) (corner : List ℤ)
+    → length corner ≤ j → j ≤ length corner → Placing j place stride edge parent corner (replicate (length corner + 1) 0) → placed edge parent corner (replicate (length corner + 1) 0) ≡ Some place
+placing_stops j place stride edge parent corner end long p =
+    let zeros : List ℕ = replicate (length corner + 1) 0 in
+    p.whole
+    ∙ ap (option_map (λ rest. place + stride * rest))
+    (at_drop_all (λ vs. placed edge (drop j parent) vs (drop j zeros)) corner j end
+    ∙ at_drop_more (λ cs. placed edge (drop j parent) [] cs) zeros j 0 (omega (arith, length-replicate {A = ℕ} (length corner + 1) 0))
+    ∙ placed-nil edge (drop j parent) (get_or zeros j 0) (drop (j + 1) zeros)
+    ∙ ap Some (get_or-replicate (length corner + 1) j 0 0 (omega arith)))
+    ∙ ap Some (omega arith)

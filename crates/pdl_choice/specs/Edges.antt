@@ -40,3 +40,8 @@ CanPlace Refuse n z = IsTrue (is_within n z)
 CanPlace Zero n z = Unit {0}
 CanPlace Nearest n z = 0 < n
 CanPlace Periodic n z = 0 < n
+
+-- at how many coordinates of a dimension of size n a window of this size may begin and lie inside; a
+-- size of 0 looks at one
+abbrev pub start_count : (dim size : ℕ) → ℕ
+start_count n size = n - (size - 1)

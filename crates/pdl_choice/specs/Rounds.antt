@@ -1,11 +1,13 @@
 -- How the places of a view are found one from another, without a division.
-use Rattle.std.specs.Prelude.{ℕ, ◌+◌, ◌*◌, ◌/◌, ◌%◌, ◌<◌, List, [], ◌∷◌, length, take, drop, slice_index, slice_index_or, Option, Some, None, ℤ, pos, ◌+ℤ◌}
+use Rattle.std.specs.Prelude.{◌≡◌, ◌⊎◌, ℕ, ◌+◌, ◌*◌, ◌/◌, ◌%◌, ◌<◌, ◌≤◌, IsTrue, List, [], ◌∷◌, All, length, map, replicate, take, drop, slice_index, slice_index_or, Option, Some, None, ℤ, pos, ◌+ℤ◌}
+use Rattle.std.specs.List.{Any, range_with_len}
 use Rattle.std.specs.Option.{option_map, unwrap_or}
 use Rattle.pdl_choice.specs.declared.edges.Edge.{Edge}
+use Rattle.pdl_choice.specs.declared.edges.Edge.TheVariants.{Zero}
 use Rattle.pdl_choice.specs.declared.indices.Line.{Line}
-use Rattle.pdl_choice.specs.Edges.{CanPlace, edge_coordinate}
+use Rattle.pdl_choice.specs.Edges.{CanPlace, edge_coordinate, is_within, start_count}
 use Rattle.pdl_shape.specs.Counting.{from_end}
-use Rattle.pdl_shape.specs.Shape.{coordinates_of, position_of}
+use Rattle.pdl_shape.specs.Shape.{coordinates_of, extent_limit, position_of}
 use Rattle.pdl_choice.specs.Range.{inner_dims, window_source}
 
 -- the position at place c of a row
@@ -63,3 +65,22 @@ window_place edge parent windows ind corners p =
     let corner = numbers_at ind (length windows) (p % corners) in
     let at = coordinates_of (inner_dims parent windows) (p / corners) in
     option_map (position_of parent) (window_source edge parent windows corner at)
+
+-- along each dimension of the windows, at how many coordinates one may begin and lie inside
+abbrev pub window_starts : (parent windows : List ℕ) → List ℕ
+window_starts parent windows =
+    map (λ j. start_count (slice_index parent j) (slice_index windows j))
+    (range_with_len 0 (length windows))
+
+-- a corner whose numbers lie below these stands at this place of the parent
+pub record StandsAt (parent starts : List ℕ) (corner : List ℤ) (place : ℕ) : Type 0 where
+  pub inside : (j : ℕ) → j < length corner
+      → IsTrue (is_within (slice_index starts j) (slice_index_or corner j (pos 0)))
+  pub is : placed Zero parent corner (replicate (length corner + 1) 0) ≡ Some place
+
+-- each corner is listed as one that reaches beyond, or stands at its base
+pub record AreKnown (parent starts : List ℕ) (ind : List ℤ) (bases beyond : List ℕ) : Type 0 where
+  pub small : All (λ base. base ≤ extent_limit) bases
+  pub numbers : All (λ q. q < length bases) beyond
+  pub each : (q : ℕ) → q < length bases → Any (λ b. b ≡ q) beyond
+      ⊎ StandsAt parent starts (numbers_at ind (length starts) q) (slice_index bases q)

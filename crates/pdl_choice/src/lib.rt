@@ -3,11 +3,12 @@
 //! `index`, `where`, `range` and the list of a clump that is no window each answer the dimensions
 //! of the view and, for each of its positions in order (dimension 0 fastest), the position in the
 //! parent, or nothing where a range reaches beyond an edge that reads 0. Refusals that hang on
-//! sizes alone come before any list is made.
+//! sizes alone come before any list of places of the view is made.
 #![tactic(auto)]
 
 mod answers;
 mod clumps;
+mod corners;
 mod edges;
 mod indices;
 mod laws;

@@ -1,5 +1,5 @@
 //! range: a window of the parent at each corner that an index lists.
-ghost use Rattle.std.specs.Prelude.{◌≡◌, ◌≢◌, ◌<◌, ◌^◌, IsTrue, ◌≤◌, ◌≤ℤ◌, ◌⊎◌, ◌*◌, ◌+◌, ◌-◌, max, [], ◌∷◌, ◌/◌, ◌%◌, ℕ, false, pos, slice_index, slice_index_or, ◌++◌, length, take, drop, map, filter, All, Ok, Err, IfOk, IfErr, IfSome, IfNone, OnOk, Some, None, vec_len};
+ghost use Rattle.std.specs.Prelude.{◌≡◌, ◌≢◌, ◌<◌, ◌^◌, IsTrue, ◌≤◌, ◌≤ℤ◌, ◌⊎◌, ◌*◌, ◌+◌, ◌-◌, max, [], ◌∷◌, ◌/◌, ◌%◌, ℕ, false, pos, slice_index, slice_index_or, ◌++◌, length, drop, map, filter, All, Ok, Err, IfOk, IfErr, IfSome, IfNone, OnOk, Some, None, vec_len};
 ghost use Rattle.std.specs.Bool.{OnFalse};
 ghost use Rattle.std.specs.List.{Any, list_any, range_with_len};
 ghost use Rattle.std.specs.Option.{option_map, unwrap_or};
@@ -10,10 +10,11 @@ ghost use Rattle.pdl_shape.specs.Refusals.{Refuses};
 ghost use Rattle.pdl_choice.specs.Choice.{position_in, refusal_of};
 ghost use Rattle.pdl_choice.specs.Edges.{edge_refuses, from_zero};
 ghost use Rattle.pdl_choice.specs.declared.edges.Edge.TheVariants.{Refuse, Zero};
-ghost use Rattle.pdl_choice.specs.Rounds.{CanPlaceAll, CanPlaceEach, numbers_at, placed, window_place};
+ghost use Rattle.pdl_choice.specs.Rounds.{AreKnown, CanPlaceAll, CanPlaceEach, numbers_at, placed, window_place, window_starts};
 ghost use Rattle.pdl_choice.specs.Range.{capped, corner_len, is_negative, is_positive, window_refusal, window_sizes, first_refused, inner_dims, range_dims, range_outside, range_source, AllAllowed};
 
 use crate::answers::{count_of, limited};
+use crate::corners::{Corners, are_inside, corner_of, known_corners};
 use crate::reach::{coordinate, refuses};
 use crate::rounds::{first_size, move_on, rounds_of};
 use crate::{Choice, ChoiceFault, Edge, NoMemory, Places};
@@ -87,15 +88,18 @@ fn ranged(
         Err(fault) => return Err(fault),
     };
     let windows = listed.as_slice();
-    if let Some(at) = first_beyond(edge, parent, windows, ind) {
+    let corners = count_of(outer);
+    let known = known_corners(alloc, parent, windows, ind, corners)?;
+    let inside = are_inside(&known);
+    if let Some(at) = first_refusal(edge, parent, windows, ind, inside) {
         return Err(ChoiceFault::OutOfRange { at: at as u32 });
     }
     let dims = match windowed(alloc, outer, parent, windows) {
         Ok(dims) => dims,
         Err(fault) => return Err(fault),
     };
-    let (corners, count) = (count_of(outer), elements_of(&dims));
-    let list = window_places(alloc, edge, parent, windows, ind, corners, count)?;
+    let count = elements_of(&dims);
+    let list = window_places(alloc, edge, parent, windows, ind, corners, count, known)?;
     let places = Places::new(list)?;
     Ok(Choice { dims, places })
 }
@@ -242,6 +246,40 @@ fn first_beyond(edge: Edge, parent: &[u32], windows: &[u64], ind: &[i64]) -> Opt
     None
 }
 
+/// The same, without a look at each value where it shows that no window is refused. `inside` says
+/// that all are known to lie inside the parent.
+fn first_refusal(
+    edge: Edge,
+    parent: &[u32],
+    windows: &[u64],
+    ind: &[i64],
+    inside: bool,
+) -> Option<usize>
+    requires fit { length windows.now ≤ length parent.now }
+    requires cornered { length windows.now ≡ 0 → length ind.now ≡ 0 }
+    requires inside { IsTrue inside → AllAllowed Refuse parent.now windows.now ind.now }
+    ensures within { IfSome result (λ at. at < length ind.now) }
+    ensures none { IfNone result (AllAllowed edge parent.now windows.now ind.now) }
+    ensures first { result ≡ first_refused edge parent.now windows.now ind.now }
+{
+    let free = match edge {
+        Edge::Refuse => inside,
+        Edge::Zero => true,
+        Edge::Nearest | Edge::Periodic => !has_empty(parent),
+    };
+    if free {
+        return None;
+    }
+    first_beyond(edge, parent, windows, ind)
+}
+
+/// Whether a size is 0.
+fn has_empty(sizes: &[u32]) -> bool
+    ensures { OnFalse result (All (λ size. 0 < size) sizes.now) }
+{
+    sizes.iter().any(|size| *size == 0)
+}
+
 /// The number of a corner after `number`, where a corner has `count` numbers.
 fn next_number(number: usize, count: usize) -> usize
     requires { number < count }
@@ -273,16 +311,6 @@ fn corner_place(edge: Edge, parent: &[u32], corner: &[i64], at: &[u32]) -> Optio
         stride *= size;
     }
     Some(place + stride * at[corner.len()])
-}
-
-/// The `len` numbers of the corner that has `at` corners before it.
-fn corner_of(ind: &[i64], len: usize, at: u32) -> &[i64]
-    requires { len * at + len ≤ length ind.now }
-    ensures { result.now ≡ take len (drop (len * at) ind.now) }
-{
-    let (_, from_here) = ind.split_at(len * at as usize);
-    let (corner, _) = from_here.split_at(len);
-    corner
 }
 
 /// Adds the places of one position of the window at each corner.
@@ -364,84 +392,6 @@ fn places_one_by_one(
     Ok(places)
 }
 
-/// Whether all windows lie inside the parent, where no edge shows. An edge that refuses others was
-/// asked before.
-fn are_inside(edge: Edge, parent: &[u32], windows: &[u64], ind: &[i64]) -> bool
-    requires fit { length windows.now ≤ length parent.now }
-    requires cornered { length windows.now ≡ 0 → length ind.now ≡ 0 }
-    requires allowed { AllAllowed edge parent.now windows.now ind.now }
-    ensures { IsTrue result → AllAllowed Refuse parent.now windows.now ind.now }
-{
-    match edge {
-        Edge::Refuse => true,
-        _ => first_beyond(Edge::Refuse, parent, windows, ind).is_none(),
-    }
-}
-
-/// The place in the parent of each corner, and 0 for one that lies beyond it. `first` is the first
-/// position of a window.
-fn corner_places(
-    alloc: Global,
-    parent: &[u32],
-    ind: &[i64],
-    corners: u32,
-    first: &[u32],
-) -> Result<Vec<u32>, NoMemory>
-    requires some { 0 < length first.now }
-    requires fit { length first.now ≤ length parent.now + 1 }
-    requires whole { length ind.now ≡ (length first.now - 1) * corners }
-    requires bounded { extent parent.now ≤ extent_limit }
-    requires within { slice_index first.now (length first.now - 1)
-        < size_of (drop (length first.now - 1) parent.now) }
-    ensures places { let corner = λ (q : ℕ). numbers_at ind.now (length first.now - 1) q in
-        let base = λ (q : ℕ). unwrap_or (placed Zero parent.now (corner q) first.now) 0 in
-        IfOk result (λ bases. bases.items ≡ map base (range_with_len 0 corners)) }
-    ensures inside { IfOk result (λ bases. All (λ base. base ≤ size_of parent.now) bases.items) }
-{
-    let len = first.len() - 1;
-    let mut bases = Vec::with_capacity(alloc, corners as usize)?;
-    for number in 0..corners {
-        let numbers = corner_of(ind, len, number);
-        bases.push(corner_place(Edge::Zero, parent, numbers, first).unwrap_or(0))?;
-    }
-    Ok(bases)
-}
-
-/// The numbers of the corners whose windows reach beyond the parent, where these are at most a
-/// quarter of all.
-fn corners_beyond(
-    alloc: Global,
-    edge: Edge,
-    parent: &[u32],
-    windows: &[u64],
-    ind: &[i64],
-    corners: u32,
-) -> Result<Option<Vec<u32>>, NoMemory>
-    requires fit { length windows.now ≤ length parent.now }
-    requires whole { length ind.now ≡ length windows.now * corners }
-    requires allowed { AllAllowed edge parent.now windows.now ind.now }
-    ensures within { IfOk result (λ few. IfSome few (λ beyond. All (λ q. q < corners) beyond.items)) }
-    ensures inside { let corner = λ (q : ℕ). numbers_at ind.now (length windows.now) q in
-        IfOk result (λ few. IfSome few (λ beyond. (q : ℕ) → q < corners →
-        Any (λ b. b ≡ q) beyond.items ⊎ AllAllowed Refuse parent.now windows.now (corner q))) }
-{
-    let mut beyond = Vec::new(alloc);
-    if are_inside(edge, parent, windows, ind) {
-        return Ok(Some(beyond));
-    }
-    let most = corners as usize / 4;
-    for number in 0..corners {
-        let numbers = corner_of(ind, windows.len(), number);
-        if first_beyond(Edge::Refuse, parent, windows, numbers).is_some() {
-            if beyond.len() >= most {
-                return Ok(None);
-            }
-            beyond.push(number)?;
-        }
-    }
-    Ok(Some(beyond))
-}
-
 /// How far one position of a window lies past its corner's place, where the window lies inside the
 /// parent. `zeros` are the numbers of the parent's first corner. Where the position would lie beyond
 /// the parent, no window does, and the answer is 0.
@@ -520,7 +470,7 @@ fn push_round(
     requires allowed { CanPlaceAll edge parent.now ind.now (length zeros.now) at.now }
     requires within { slice_index at.now (length zeros.now)
         < size_of (drop (length zeros.now) parent.now) }
-    requires small { All (λ base. base ≤ size_of parent.now) bases.now }
+    requires small { All (λ base. base ≤ extent_limit) bases.now }
     requires inside { let past = unwrap_or (placed Zero parent.now zeros.now at.now) 0 in
         let corner = λ (q : ℕ). numbers_at ind.now (length zeros.now) q in
         (q : ℕ) → q < length bases.now → Any (λ b. b ≡ q) beyond.now
@@ -537,8 +487,8 @@ fn push_round(
     Ok(())
 }
 
-/// The places of all `count` positions of the windows at `corners` corners, found by sums where the
-/// corner isn't one of `beyond`.
+/// The places of all `count` positions of the windows at `corners` corners, found by sums from `bases`
+/// where the corner isn't one of `beyond`.
 fn places_by_sums(
     alloc: Global,
     edge: Edge,
@@ -547,6 +497,7 @@ fn places_by_sums(
     ind: &[i64],
     corners: u32,
     count: u32,
+    bases: &[u32],
     beyond: &[u32],
 ) -> Result<Vec<Option<u32>>, NoMemory>
     requires some { 0 < count }
@@ -556,10 +507,9 @@ fn places_by_sums(
     requires bounded { extent parent.now ≤ extent_limit }
     requires inner_bounded { extent (inner_dims parent.now windows.now) ≤ extent_limit }
     requires allowed { AllAllowed edge parent.now windows.now ind.now }
-    requires numbers { All (λ q. q < corners) beyond.now }
-    requires within { let corner = λ (q : ℕ). numbers_at ind.now (length windows.now) q in
-        (q : ℕ) → q < corners → Any (λ b. b ≡ q) beyond.now
-        ⊎ AllAllowed Refuse parent.now windows.now (corner q) }
+    requires long { length bases.now ≡ corners }
+    requires known { let starts = window_starts parent.now windows.now in
+        AreKnown parent.now starts ind.now bases.now beyond.now }
     ensures inside { IfOk result (λ places. AllBelow (size_of parent.now) places.items) }
     ensures places { let place = window_place edge parent.now windows.now ind.now corners in
         IfOk result (λ places. places.items ≡ map place (range_with_len 0 count)) }
@@ -567,19 +517,17 @@ fn places_by_sums(
     shape_laws();
     let sizes = window_rounds(alloc, parent, windows)?;
     let mut at = vec![in alloc; 0; sizes.len()]?;
-    let bases = corner_places(alloc, parent, ind, corners, &at)?;
     let zeros = vec![in alloc; 0; windows.len()]?;
     let mut places = Vec::with_capacity(alloc, count as usize)?;
     for _round in 0..rounds_of(count, corners) {
-        push_round(&mut places, edge, parent, ind, &bases, beyond, &zeros, &at)?;
+        push_round(&mut places, edge, parent, ind, bases, beyond, &zeros, &at)?;
         move_on(&sizes, &mut at);
     }
     Ok(places)
 }
 
 /// The places in a parent of dimensions `parent` of all `count` positions of the windows at
-/// `corners` corners. A window of one position, and windows that mostly reach beyond the parent,
-/// gain nothing by sums.
+/// `corners` corners: by sums where these are known.
 fn window_places(
     alloc: Global,
     edge: Edge,
@@ -588,6 +536,7 @@ fn window_places(
     ind: &[i64],
     corners: u32,
     count: u32,
+    known: Option<Corners>,
 ) -> Result<Vec<Option<u32>>, NoMemory>
     requires fit { length windows.now ≤ length parent.now }
     requires whole { length ind.now ≡ length windows.now * corners }
@@ -595,15 +544,21 @@ fn window_places(
     requires bounded { extent parent.now ≤ extent_limit }
     requires inner_bounded { extent (inner_dims parent.now windows.now) ≤ extent_limit }
     requires allowed { AllAllowed edge parent.now windows.now ind.now }
+    requires long { IfSome known (λ known. vec_len known.bases ≡ corners) }
+    requires known { let starts = window_starts parent.now windows.now in
+        IfSome known (λ known.
+        AreKnown parent.now starts ind.now known.bases.items known.beyond.items) }
     ensures inside { IfOk result (λ places. AllBelow (size_of parent.now) places.items) }
     ensures places { let place = window_place edge parent.now windows.now ind.now corners in
         IfOk result (λ places. places.items ≡ map place (range_with_len 0 count)) }
 {
-    if count > corners {
-        let few = corners_beyond(alloc, edge, parent, windows, ind, corners)?;
-        if let Some(beyond) = few {
-            let beyond = beyond.as_slice();
-            return places_by_sums(alloc, edge, parent, windows, ind, corners, count, beyond);
+    if let Some(known) = known {
+        if count > 0 {
+            let bases = known.bases.as_slice();
+            let beyond = known.beyond.as_slice();
+            return places_by_sums(
+                alloc, edge, parent, windows, ind, corners, count, bases, beyond,
+            );
         }
     }
     places_one_by_one(alloc, edge, parent, windows, ind, corners, count)

@@ -15,7 +15,7 @@ made_of (Ok x) ty uy es fs a b h =
     subst Q b (subst P a h)
 
 -- so many steps at most, also where memory was wanted
-bounded : {A E : Type 0} (r : Result A E) (n s k : ℕ) → OnOk r (n ≡ s + k) → OnErr r (n ≡ s) → n ≤ s + k
+pub bounded : {A E : Type 0} (r : Result A E) (n s k : ℕ) → OnOk r (n ≡ s + k) → OnErr r (n ≡ s) → n ≤ s + k
 bounded (Ok a) n s k f g = omega (arith, f)
 bounded (Err e) n s k f g = omega (arith, g)
 

@@ -27,7 +27,7 @@ ghost use Rattle.pdl_engine.specs.State.{IsLazy, IsLentAs, Joins, OthersWait, Pa
 use crate::depth::is_deeper;
 use crate::foreseeing::{Foreseen, Foresight, foresee, foretell};
 use crate::spread::lies_apart;
-use crate::{reaching, readying, releases, severing, through};
+use crate::{gathering, reaching, readying, releases, severing, through};
 use pdl_buf::{Buf, Elements, NoMemory, Steps, Strided, buf_of_elements, strided};
 use pdl_elem::Ty;
 use pdl_nodes::{
@@ -426,7 +426,8 @@ impl Engine {
 
     /// Whether it is plain that an array is a view that is its own base and wasn't read: it can't be
     /// lent, and its places weren't found yet. What is assigned to all of it needn't be put into
-    /// elements of its own then. Where it is false nothing is said.
+    /// elements of its own then, nor what it shows be read from them. Where it is false nothing is
+    /// said.
     pub fn is_unread(&self, id: ArrayId) -> bool
         requires { IsLive self.now.world id }
         ensures own { result ≡ true → base self.now.world id ≡ id }
@@ -485,6 +486,34 @@ impl Engine {
         row_laws();
         part_laws();
         through::assign_through(&mut self.table, self.alloc, id, source, steps)
+    }
+
+    /// A buffer of such a view's elements, read from its root at its places. The view's own elements
+    /// aren't brought up to date, and it keeps none of these. What waits in its family is written
+    /// back first, and the arrays above the view are brought up to date, for its places. It takes no
+    /// more steps than to make the view one that can be lent. Out of memory, it may leave some of the
+    /// arrays above the view so.
+    pub fn gathered<L: Ledger>(
+        &mut self,
+        id: ArrayId,
+        steps: &mut Steps<L>,
+    ) -> Result<Buf, NoMemory>
+        requires live { IsLive self.old.world id }
+        requires own { base self.old.world id ≡ id }
+        requires view { root_of self.old.world id ≢ id }
+        requires stale { is_fresh self.old id ≡ false }
+        ensures value { let w = self.old.world in
+            IfOk result (λ b. b ≡ record { ty = ty_in w id; elems = elements w id }) }
+        ensures count { let size = size_of (dims_in self.old.world id) in
+            IfOk result (λ b. length b.elems ≡ size) }
+        ensures same { SameArrays self.old self.new }
+        ensures stay { StayFresh self.old self.new }
+        ensures settled { waiting self.new id ≡ None }
+        ensures others { OthersWait self.old id self.new }
+        ensures counted { let most = ready_steps self.old id in steps.new ≤ steps.old + most }
+    {
+        row_laws();
+        gathering::gather(&mut self.table, self.alloc, id, steps)
     }
 
     /// The root of an array, by which two arrays are of one family.

@@ -12,6 +12,7 @@ mod copying;
 mod depth;
 mod engine;
 mod foreseeing;
+mod gathering;
 mod laws;
 mod reaching;
 mod readying;

@@ -32,7 +32,7 @@ use std::alloc::{AllocError, Global};
 use std::sync::ledger::Ledger;
 
 /// How many elements are read at once.
-const BLOCK: usize = 512;
+pub(crate) const BLOCK: usize = 512;
 
 /// Packs the elements that are shown from one on, as many as the block is long.
 fn pack_block(

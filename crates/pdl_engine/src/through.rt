@@ -15,6 +15,7 @@ ghost use Rattle.pdl_pull.specs.Outdated.{outdated};
 ghost use Rattle.pdl_push.specs.Settled.{OthersWait};
 ghost use Rattle.pdl_engine.specs.Through.{CanGoThrough, WentThrough, IsUnmarked, OthersStayMarked};
 
+use crate::severing::BLOCK;
 use pdl_buf::{Steps, strided, strided_read};
 use pdl_nodes::{Table, row_laws};
 use pdl_pull::find;
@@ -23,9 +24,6 @@ use pdl_shape::{elements_of, shape_laws};
 use pdl_world::part_laws;
 use std::alloc::{AllocError, Global};
 use std::sync::ledger::Ledger;
-
-/// How many elements are read at once.
-const BLOCK: usize = 512;
 
 /// Sets each element of a block to a fresh array's element at a position, from `first` on.
 fn read_block(table: &Table, id: u64, first: u32, block: &mut [i64])

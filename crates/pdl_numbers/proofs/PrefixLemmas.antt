@@ -20,7 +20,7 @@ prefix_at t f a (x ∷ xs) (suc i) h =
     let same : suc (i + 1) ≡ suc i + 1 = omega arith in
     prefix_at t f (f a x) xs i (omega (arith, h)) ∙ ap (λ (n : ℕ). wrapped t (fold f a (take n (x ∷ xs)))) same
 
-prefixes_behind : (t : Ty) (f : ℤ → ℤ → ℤ) (a : ℤ) (xs ys : List ℤ)
+pub prefixes_behind : (t : Ty) (f : ℤ → ℤ → ℤ) (a : ℤ) (xs ys : List ℤ)
     → wrapped_prefixes t f a (xs ++ ys) ≡ wrapped_prefixes t f a xs ++ wrapped_prefixes t f (fold f a xs) ys
 prefixes_behind t f a [] ys = refl
 prefixes_behind t f a (x ∷ xs) ys = ap (λ zs. wrapped t (f a x) ∷ zs) (prefixes_behind t f (f a x) xs ys)

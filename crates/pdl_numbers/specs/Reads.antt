@@ -1,5 +1,5 @@
 -- Reading what a triple shows in blocks.
-use Rattle.std.specs.Prelude.{◌≡◌, ◌<◌, ◌≤◌, ◌+◌, ◌*◌, ◌/◌, ◌%◌, ℕ, ℤ, pos, ◌<ℤ◌, ◌+ℤ◌, ◌*ℤ◌, unsigned_abs, List, get_or}
+use Rattle.std.specs.Prelude.{◌≡◌, ◌<◌, ◌≤◌, ◌+◌, ◌*◌, ◌/◌, ◌%◌, ℕ, ℤ, pos, ◌<ℤ◌, ◌+ℤ◌, ◌*ℤ◌, unsigned_abs, List, get_or, length}
 use Rattle.pdl_shape.specs.Triple.{IsPlace, Triple}
 use Rattle.pdl_numbers.specs.Shown.{place_at}
 
@@ -26,11 +26,12 @@ across ds first steps = first + steps * get_or ds 0 1
 abbrev pub LieAcross : (ds : List ℕ) → (first count : ℕ) → Type 0
 LieAcross ds first count = (first / get_or ds 0 1) % get_or ds 1 1 + count ≤ get_or ds 1 1
 
--- the first count of these numbers are what the triple shows along dimension 1 from a position on
-abbrev pub HasReadAcross : Triple → (elems : List ℤ) → (first count : ℕ) → (read : List ℤ) → Type 0
-HasReadAcross t es first count rs =
-    (k : ℕ) → k < count → get_or rs k (pos 0)
-    ≡ get_or es (place_at t (across t.dims first k)) (pos 0)
+-- each of these is what it was with the number taken in that the triple shows so many steps along
+-- dimension 1 after a position
+abbrev pub HasTakenAcross : (taken : ℤ → ℤ → ℤ) → Triple → (elems : List ℤ) → (first : ℕ) → (old new : List ℤ) → Type 0
+HasTakenAcross taken t es first old new =
+    (k : ℕ) → k < length old → get_or new k (pos 0)
+    ≡ taken (get_or old k (pos 0)) (get_or es (place_at t (across t.dims first k)) (pos 0))
 
 -- the first count of these numbers stand from a place on, each so far after the one before
 abbrev pub HasStepped : (elems : List ℤ) → (place : ℕ) → (inc : ℤ) → (count : ℕ) → List ℤ → Type 0

@@ -1,34 +1,76 @@
-//! Reading what a triple shows of packed numbers along dimension 1.
-ghost use Rattle.std.specs.Prelude.{◌≡◌, ◌<◌, ◌≤◌, ℕ, length, All};
-ghost use Rattle.pdl_elem.specs.Types.{InRange};
+//! Taking in what a triple shows of packed numbers along dimension 1.
+ghost use Rattle.std.specs.Prelude.{◌≡◌, ◌<◌, ◌≤◌, ◌+ℤ◌, ◌*ℤ◌, ℕ, pos, length, get_or, unsigned_abs};
 ghost use Rattle.pdl_shape.specs.Shape.{extent_limit, size_of};
 ghost use Rattle.pdl_shape.specs.Triple.{Reaches};
-ghost use Rattle.pdl_numbers.specs.Reads.{HasReadAcross, LieAcross, across};
+ghost use Rattle.pdl_numbers.specs.Reads.{HasTakenAcross, LieAcross, LiesInside, across};
 
-use crate::packed::{Packed, PackedType};
+use crate::packed::Packed;
 use crate::placement::Placement;
-use crate::reads::{are_at_once, inc_along, read_run};
+use crate::prefixes::Folding;
+use crate::reads::{inc_along, number_after};
+use crate::types::PackedType;
 use pdl_shape::shape_laws;
 
-/// The elements that a triple shows of these numbers along dimension 1, from a position on.
-pub(crate) fn read_across<T: PackedType<N>, const N: usize>(
+/// Takes the numbers from a place on, each so far after the one before, into what others before
+/// each of them come to.
+#[inline(always)]
+fn take_steps<F: Folding, T: PackedType<N>, const N: usize>(
+    numbers: &Packed<T, N>,
+    place: u32,
+    inc: i32,
+    so_far: &mut [i64],
+)
+    requires small { length so_far.old ≤ extent_limit }
+    requires inside { LiesInside (length numbers.now) place inc (length so_far.old) }
+    ensures { (j : ℕ) → j < length so_far.old →
+        let number = get_or numbers.now (unsigned_abs (pos place +ℤ inc *ℤ pos j)) (pos 0) in
+        get_or so_far.new j (pos 0) ≡ F.taken (get_or so_far.old j (pos 0)) number }
+{
+    let cells = numbers.cells();
+    for (j, come_to) in so_far.iter_mut().enumerate() {
+        *come_to = F::take(*come_to, number_after::<T, N>(cells, place, inc, j));
+    }
+}
+
+/// The same. Neighbours have the loop for themselves: of a step that it knows the compiler makes
+/// vectors.
+fn take_by_step<F: Folding, T: PackedType<N>, const N: usize>(
+    numbers: &Packed<T, N>,
+    place: u32,
+    inc: i32,
+    so_far: &mut [i64],
+)
+    requires small { length so_far.old ≤ extent_limit }
+    requires inside { LiesInside (length numbers.now) place inc (length so_far.old) }
+    ensures { (j : ℕ) → j < length so_far.old →
+        let number = get_or numbers.now (unsigned_abs (pos place +ℤ inc *ℤ pos j)) (pos 0) in
+        get_or so_far.new j (pos 0) ≡ F.taken (get_or so_far.old j (pos 0)) number }
+{
+    if inc == 1 {
+        take_steps::<F, T, N>(numbers, place, 1, so_far);
+    } else {
+        take_steps::<F, T, N>(numbers, place, inc, so_far);
+    }
+}
+
+/// Takes the elements that a triple shows of these numbers along dimension 1, from a position on,
+/// into what others before each of them come to.
+pub(crate) fn take_across<F: Folding, T: PackedType<N>, const N: usize>(
     numbers: &Packed<T, N>,
     placement: &Placement,
     first: u32,
-    into: &mut [i64],
+    so_far: &mut [i64],
 )
     requires some { first < size_of placement.now.dims }
-    requires small { length into.old ≤ extent_limit }
-    requires along { LieAcross placement.now.dims first (length into.old) }
-    requires within { (k : ℕ) → k < length into.old →
+    requires small { length so_far.old ≤ extent_limit }
+    requires along { LieAcross placement.now.dims first (length so_far.old) }
+    requires within { (k : ℕ) → k < length so_far.old →
         across placement.now.dims first k < size_of placement.now.dims }
     requires reaches { Reaches placement.now (length numbers.now) }
-    ensures value { HasReadAcross placement.now numbers.now first (length into.old) into.new }
-    ensures in_range { All (InRange T.ty) into.new }
+    ensures { HasTakenAcross F.taken placement.now numbers.now first so_far.old so_far.new }
 {
     shape_laws();
-    numbers.are_in_range();
     let place = placement.place(first);
     let inc = inc_along(placement.triple(), 1);
-    read_run(numbers, place, inc, are_at_once(inc, into.len()), into);
+    take_by_step::<F, T, N>(numbers, place, inc, so_far);
 }

@@ -9,9 +9,10 @@ ghost use Rattle.pdl_numbers.specs.Reads.{LiesInside};
 ghost use Rattle.pdl_numbers.specs.Shown.{IsInOrder, shown_through};
 ghost use Rattle.pdl_numbers.specs.Writes.{placed_from, stepped};
 
-use crate::packed::{Packed, PackedType};
+use crate::packed::Packed;
 use crate::placement::{Placement, place_after, place_in_order, place_of};
 use crate::reads::{inc_along, run_length, size_along};
+use crate::types::PackedType;
 use pdl_elem::wrapping_laws;
 use pdl_shape::{Triple, elements_of, shape_laws};
 use std::marker::PhantomData;

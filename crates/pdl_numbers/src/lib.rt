@@ -16,6 +16,7 @@ mod reads;
 mod routes;
 mod runs;
 mod sums;
+mod types;
 mod updates;
 mod values;
 mod writes;

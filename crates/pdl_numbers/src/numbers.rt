@@ -11,18 +11,19 @@ ghost use Rattle.pdl_numbers.specs.Typed.{TypedElements};
 ghost use Rattle.pdl_numbers.specs.Bytes.{bytes_of};
 ghost use Rattle.pdl_numbers.specs.Numbers.{elements_in};
 ghost use Rattle.pdl_numbers.specs.Prefixes.{wrapped_prefixes};
-ghost use Rattle.pdl_numbers.specs.Reads.{HasRead, HasReadAcross, LieAcross, across};
+ghost use Rattle.pdl_numbers.specs.Reads.{HasRead, HasTakenAcross, LieAcross, across};
 ghost use Rattle.pdl_numbers.specs.Shown.{shown_through};
 ghost use Rattle.pdl_numbers.specs.Updates.{ShowsOnce, Suits, updated};
 ghost use Rattle.pdl_numbers.specs.Writes.{onward, placed_from};
 
-use crate::across::read_across;
+use crate::across::take_across;
 use crate::copies::copy_shown;
-use crate::packed::{AtByte, AtLong, AtLonglong, AtSbyte, AtShort, AtUlong, AtUshort, Packed};
+use crate::packed::Packed;
 use crate::placement::Placement;
 use crate::prefixes::Folding;
 use crate::reads::read_block;
 use crate::routes::Route;
+use crate::types::{AtByte, AtLong, AtLonglong, AtSbyte, AtShort, AtUlong, AtUshort};
 use crate::updates::{Update, update_shown};
 use crate::values::extend_values;
 use crate::writes::{write_block, write_onward};
@@ -287,7 +288,7 @@ impl Numbers {
             (Numbers::Longlongs(into), Numbers::Longlongs(from)) => {
                 into.gather(from, placement, places)
             }
-            _ => {}
+            _ => unreachable!(),
         }
     }
 
@@ -329,7 +330,7 @@ impl Numbers {
             (Numbers::Longs(into), Numbers::Longs(from)) => into.scatter_from(places, from),
             (Numbers::Ulongs(into), Numbers::Ulongs(from)) => into.scatter_from(places, from),
             (Numbers::Longlongs(into), Numbers::Longlongs(from)) => into.scatter_from(places, from),
-            _ => {}
+            _ => unreachable!(),
         }
     }
 
@@ -457,7 +458,7 @@ impl Numbers {
             (Numbers::Longlongs(into), Numbers::Longlongs(from)) => {
                 copy_shown(into, to, from, shown)
             }
-            _ => {}
+            _ => unreachable!(),
         }
     }
 
@@ -497,26 +498,36 @@ impl Numbers {
         }
     }
 
-    /// The numbers that a placement shows along dimension 1, from a position on.
-    pub fn read_across(&self, placement: &Placement, first: u32, into: &mut [i64])
+    /// Takes the numbers that a placement shows along dimension 1, from a position on, into what
+    /// others before each of them come to.
+    pub fn take_across<F: Folding>(&self, placement: &Placement, first: u32, so_far: &mut [i64])
         requires some { first < size_of placement.now.dims }
-        requires small { length into.old ≤ extent_limit }
-        requires along { LieAcross placement.now.dims first (length into.old) }
-        requires within { (k : ℕ) → k < length into.old →
+        requires small { length so_far.old ≤ extent_limit }
+        requires along { LieAcross placement.now.dims first (length so_far.old) }
+        requires within { (k : ℕ) → k < length so_far.old →
             across placement.now.dims first k < size_of placement.now.dims }
         requires reaches { Reaches placement.now (length (elements_in self.now).elems) }
-        ensures value { HasReadAcross placement.now (elements_in self.now).elems
-            first (length into.old) into.new }
-        ensures in_range { All (InRange (elements_in self.now).ty) into.new }
+        ensures { let elems = (elements_in self.now).elems in
+            HasTakenAcross F.taken placement.now elems first so_far.old so_far.new }
     {
         match self {
-            Numbers::Sbytes(packed) => read_across(packed, placement, first, into),
-            Numbers::Bytes(packed) => read_across(packed, placement, first, into),
-            Numbers::Shorts(packed) => read_across(packed, placement, first, into),
-            Numbers::Ushorts(packed) => read_across(packed, placement, first, into),
-            Numbers::Longs(packed) => read_across(packed, placement, first, into),
-            Numbers::Ulongs(packed) => read_across(packed, placement, first, into),
-            Numbers::Longlongs(packed) => read_across(packed, placement, first, into),
+            Numbers::Sbytes(packed) => take_across::<F, AtSbyte, 1>(
+                packed, placement, first, so_far,
+            ),
+            Numbers::Bytes(packed) => take_across::<F, AtByte, 1>(packed, placement, first, so_far),
+            Numbers::Shorts(packed) => take_across::<F, AtShort, 2>(
+                packed, placement, first, so_far,
+            ),
+            Numbers::Ushorts(packed) => {
+                take_across::<F, AtUshort, 2>(packed, placement, first, so_far)
+            }
+            Numbers::Longs(packed) => take_across::<F, AtLong, 4>(packed, placement, first, so_far),
+            Numbers::Ulongs(packed) => take_across::<F, AtUlong, 4>(
+                packed, placement, first, so_far,
+            ),
+            Numbers::Longlongs(packed) => {
+                take_across::<F, AtLonglong, 8>(packed, placement, first, so_far)
+            }
         }
     }
 }

@@ -1,9 +1,6 @@
 //! Lists of numbers of one type, each kept as the bytes of its type.
 ghost use Rattle.std.specs.Prelude.{◌≡◌, ◌≢◌, ◌<◌, ◌≤◌, ◌+◌, ◌^◌, ◌+ℤ◌, ◌*ℤ◌, ℕ, ℤ, IsTrue, List, [], ◌++◌, pos, length, take, drop, fold, map, get_or, slice_set, All, IfOk, OnOk, OnErr};
 ghost use Rattle.std.specs.List.{flat_map, range_with_len};
-ghost use Rattle.std.proofs.Common.{rules};
-ghost use Rattle.pdl_elem.specs.declared.Ty.{Ty};
-ghost use Rattle.pdl_elem.specs.declared.Ty.TheVariants.{Sbyte, Byte, Short, Ushort, Long, Ulong, Longlong};
 ghost use Rattle.pdl_elem.specs.Blocks.{pairwise};
 ghost use Rattle.pdl_elem.specs.Operators.{divides, value_of};
 ghost use Rattle.pdl_elem.specs.Types.{InRange};
@@ -18,182 +15,16 @@ ghost use Rattle.pdl_numbers.specs.Shown.{shown_through};
 ghost use Rattle.pdl_numbers.specs.Bytes.{ArePacked, IsPacked, bytes_of, number_of};
 
 use crate::placement::{Placement, place_after};
-use crate::prefixes::{Folding, pack_prefixes, update_prefixes};
+use crate::prefixes::{Folding, pack_prefixes};
 use crate::routes::Route;
-use pdl_elem::{KnownOp, Ty, apply, block_laws, wrap, wrapping_laws};
+use crate::types::PackedType;
+use pdl_elem::{KnownOp, apply, block_laws, wrapping_laws};
 use pdl_shape::shape_laws;
 use std::alloc::{AllocError, Global};
 use std::marker::{Model, PhantomData};
 
 /// So many numbers are fetched at once.
-const BLOCK: usize = 1024;
-
-/// A type whose numbers are kept in `N` bytes each.
-pub trait PackedType<const N: usize> {
-    ghost ty: { Ty };
-
-    /// The bytes of a number of the type: two's complement, lowest byte first.
-    fn pack(number: i64) -> [u8; N]
-        requires { InRange ty number }
-        ensures { result ≡ bytes_of ty number };
-
-    /// The number of the type that has these bytes.
-    fn unpack(bytes: &[u8; N]) -> i64
-        ensures { result ≡ number_of ty bytes.now };
-
-    /// The type.
-    fn known() -> Ty
-        ensures { result ≡ ty };
-
-    ghost narrow: { N ≤ 8 };
-}
-
-#[derive(Debug)]
-pub struct AtSbyte;
-
-impl PackedType<1> for AtSbyte {
-    ghost ty = { Sbyte };
-
-    ghost narrow = { Prim.search rules };
-
-    fn known() -> Ty {
-        Ty::Sbyte
-    }
-
-    fn pack(number: i64) -> [u8; 1] {
-        (number as i8).to_le_bytes()
-    }
-
-    fn unpack(bytes: &[u8; 1]) -> i64 {
-        wrap(Ty::Sbyte, i128::from(u8::from_le_bytes(*bytes)))
-    }
-}
-
-#[derive(Debug)]
-pub struct AtByte;
-
-impl PackedType<1> for AtByte {
-    ghost ty = { Byte };
-
-    ghost narrow = { Prim.search rules };
-
-    fn known() -> Ty {
-        Ty::Byte
-    }
-
-    fn pack(number: i64) -> [u8; 1] {
-        (number as u8).to_le_bytes()
-    }
-
-    fn unpack(bytes: &[u8; 1]) -> i64 {
-        wrap(Ty::Byte, i128::from(u8::from_le_bytes(*bytes)))
-    }
-}
-
-#[derive(Debug)]
-pub struct AtShort;
-
-impl PackedType<2> for AtShort {
-    ghost ty = { Short };
-
-    ghost narrow = { Prim.search rules };
-
-    fn known() -> Ty {
-        Ty::Short
-    }
-
-    fn pack(number: i64) -> [u8; 2] {
-        (number as i16).to_le_bytes()
-    }
-
-    fn unpack(bytes: &[u8; 2]) -> i64 {
-        wrap(Ty::Short, i128::from(u16::from_le_bytes(*bytes)))
-    }
-}
-
-#[derive(Debug)]
-pub struct AtUshort;
-
-impl PackedType<2> for AtUshort {
-    ghost ty = { Ushort };
-
-    ghost narrow = { Prim.search rules };
-
-    fn known() -> Ty {
-        Ty::Ushort
-    }
-
-    fn pack(number: i64) -> [u8; 2] {
-        (number as u16).to_le_bytes()
-    }
-
-    fn unpack(bytes: &[u8; 2]) -> i64 {
-        wrap(Ty::Ushort, i128::from(u16::from_le_bytes(*bytes)))
-    }
-}
-
-#[derive(Debug)]
-pub struct AtLong;
-
-impl PackedType<4> for AtLong {
-    ghost ty = { Long };
-
-    ghost narrow = { Prim.search rules };
-
-    fn known() -> Ty {
-        Ty::Long
-    }
-
-    fn pack(number: i64) -> [u8; 4] {
-        (number as i32).to_le_bytes()
-    }
-
-    fn unpack(bytes: &[u8; 4]) -> i64 {
-        wrap(Ty::Long, i128::from(u32::from_le_bytes(*bytes)))
-    }
-}
-
-#[derive(Debug)]
-pub struct AtUlong;
-
-impl PackedType<4> for AtUlong {
-    ghost ty = { Ulong };
-
-    ghost narrow = { Prim.search rules };
-
-    fn known() -> Ty {
-        Ty::Ulong
-    }
-
-    fn pack(number: i64) -> [u8; 4] {
-        (number as u32).to_le_bytes()
-    }
-
-    fn unpack(bytes: &[u8; 4]) -> i64 {
-        wrap(Ty::Ulong, i128::from(u32::from_le_bytes(*bytes)))
-    }
-}
-
-#[derive(Debug)]
-pub struct AtLonglong;
-
-impl PackedType<8> for AtLonglong {
-    ghost ty = { Longlong };
-
-    ghost narrow = { Prim.search rules };
-
-    fn known() -> Ty {
-        Ty::Longlong
-    }
-
-    fn pack(number: i64) -> [u8; 8] {
-        number.to_le_bytes()
-    }
-
-    fn unpack(bytes: &[u8; 8]) -> i64 {
-        wrap(Ty::Longlong, i128::from(u64::from_le_bytes(*bytes)))
-    }
-}
+const FETCHED: usize = 1024;
 
 /// A list of numbers of the type `T`, each kept as its bytes.
 #[derive(Debug, Drop)]
@@ -251,7 +82,10 @@ fn pack_along<T: PackedType<N>, const N: usize>(
 }
 
 /// The bytes of an operator's value on two numbers.
-fn packed_value<O: KnownOp, T: PackedType<N>, const N: usize>(left: i64, right: i64) -> [u8; N]
+pub(crate) fn packed_value<O: KnownOp, T: PackedType<N>, const N: usize>(
+    left: i64,
+    right: i64,
+) -> [u8; N]
     requires left { InRange T.ty left }
     requires right { InRange T.ty right }
     requires divisor { IsTrue (divides O.op) → right ≢ pos 0 }
@@ -298,26 +132,6 @@ fn update_all<O: KnownOp, T: PackedType<N>, const N: usize>(number: i64, cells: 
 {
     for cell in cells {
         update_cell::<O, T, N>(number, cell);
-    }
-}
-
-/// The number in each cell becomes an operator's value on it and the number in the other cell that
-/// stands for it.
-fn update_each<O: KnownOp, T: PackedType<N>, const N: usize>(
-    right: &[[u8; N]],
-    cells: &mut [[u8; N]],
-)
-    requires paired { length right.now ≡ length cells.old }
-    requires divisors { IsTrue (divides O.op) →
-        All (λ y. y ≢ pos 0) (map (number_of T.ty) right.now) }
-    ensures { let number = number_of T.ty in
-        let values = pairwise (value_of O.op T.ty) (map number cells.old) (map number right.now) in
-        cells.new ≡ map (bytes_of T.ty) values }
-{
-    wrapping_laws();
-    block_laws();
-    for (i, cell) in right.iter().enumerate() {
-        cells[i] = packed_value::<O, T, N>(T::unpack(&cells[i]), T::unpack(cell));
     }
 }
 
@@ -528,30 +342,6 @@ impl<T: PackedType<N>, const N: usize> Packed<T, N> {
         Ok(())
     }
 
-    /// Puts an operator's values on the numbers in each two cells after the others. The cells on the
-    /// left are copied there and changed where they stand: that takes less than to fill the room
-    /// with zeros first.
-    pub(crate) fn extend_values_of<O: KnownOp>(
-        &mut self,
-        left: &[[u8; N]],
-        right: &[[u8; N]],
-    ) -> Result<(), AllocError>
-        requires paired { length left.now ≡ length right.now }
-        requires divisors { IsTrue (divides O.op) →
-            All (λ y. y ≢ pos 0) (map (number_of T.ty) right.now) }
-        ensures ok { let number = number_of T.ty in
-            let f = value_of O.op T.ty in
-            let values = pairwise f (map number left.now) (map number right.now) in
-            OnOk result (self.new ≡ self.old ++ values) }
-        ensures err { OnErr result (self.new ≡ self.old) }
-    {
-        block_laws();
-        let start = self.cells.len();
-        self.cells.extend_from_slice(left)?;
-        update_each::<O, T, N>(right, &mut self.cells[start..]);
-        Ok(())
-    }
-
     /// Puts what numbers come to up to each of them, from a start on, wrapped to the type, after
     /// the others. It answers what all come to.
     pub(crate) fn extend_prefixes<F: Folding>(
@@ -569,46 +359,6 @@ impl<T: PackedType<N>, const N: usize> Packed<T, N> {
         self.cells.resize(first + numbers.len(), [0; N])?;
         let end = pack_prefixes::<F, T, N>(start, numbers, &mut self.cells[first..]);
         Ok(end)
-    }
-
-    /// Puts what the numbers in cells come to up to each of them, from a start on, wrapped to the
-    /// type, after the others. It answers what all come to.
-    pub(crate) fn extend_prefixes_of<F: Folding>(
-        &mut self,
-        start: i64,
-        cells: &[[u8; N]],
-    ) -> Result<i64, AllocError>
-        ensures value { let numbers = map (number_of T.ty) cells.now in
-            IfOk result (λ end. end ≡ fold F.taken start numbers) }
-        ensures ok { let numbers = map (number_of T.ty) cells.now in
-            let new = wrapped_prefixes T.ty F.taken start numbers in
-            OnOk result (self.new ≡ self.old ++ new) }
-        ensures err { OnErr result (self.new ≡ self.old) }
-    {
-        wrapping_laws();
-        let first = self.cells.len();
-        self.cells.extend_from_slice(cells)?;
-        let end = update_prefixes::<F, T, N>(start, &mut self.cells[first..]);
-        Ok(end)
-    }
-
-    /// Puts the numbers in packed cells after the others. The cells are copied.
-    pub(crate) fn extend_cells(&mut self, cells: &[[u8; N]]) -> Result<(), AllocError>
-        requires { ArePacked T.ty cells.now }
-        ensures ok { OnOk result (self.new ≡ self.old ++ map (number_of T.ty) cells.now) }
-        ensures err { OnErr result (self.new ≡ self.old) }
-    {
-        self.cells.extend_from_slice(cells)
-    }
-
-    /// The cells in which so many numbers stand from a place on, of which there are enough.
-    pub(crate) fn part(&self, start: usize, count: usize) -> &[[u8; N]]
-        requires { start + count ≤ length self.now }
-        ensures value { map (number_of T.ty) result.now ≡ take count (drop start self.now) }
-        ensures packed { ArePacked T.ty result.now }
-    {
-        let _count = self.len();
-        &self.cells[start..start + count]
     }
 
     /// Sets `into` to the numbers from a place on, of which there are enough.
@@ -808,7 +558,7 @@ impl<T: PackedType<N>, const N: usize> Packed<T, N> {
         let mut packed = Packed::with_room(alloc, places.len())?;
         let mut done = 0;
         while done < places.len() {
-            let size = BLOCK.min(places.len() - done);
+            let size = FETCHED.min(places.len() - done);
             packed.extend_gathered(self, &places[done..done + size])?;
             done += size;
         }

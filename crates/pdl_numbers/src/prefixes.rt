@@ -4,8 +4,11 @@ ghost use Rattle.pdl_elem.specs.Numbers.{wrapped};
 ghost use Rattle.pdl_numbers.specs.Bytes.{bytes_of, number_of};
 ghost use Rattle.pdl_numbers.specs.Prefixes.{wrapped_prefixes};
 
-use crate::packed::PackedType;
+use crate::types::PackedType;
 use pdl_elem::{wrap, wrapping_laws};
+
+/// So many cells are changed without a test between them.
+const AT_ONCE: usize = 16;
 
 /// How a number is taken into what those before it come to.
 pub trait Folding {
@@ -44,8 +47,9 @@ pub(crate) fn pack_prefixes<F: Folding, T: PackedType<N>, const N: usize>(
 }
 
 /// The number in each cell becomes what the numbers up to it come to, from a start on, wrapped to the
-/// type. It answers what all come to.
-pub(crate) fn update_prefixes<F: Folding, T: PackedType<N>, const N: usize>(
+/// type. It answers what all come to. In line a known number of cells needs no test between them.
+#[inline(always)]
+fn update_part<F: Folding, T: PackedType<N>, const N: usize>(
     start: i64,
     cells: &mut [[u8; N]],
 ) -> i64
@@ -59,4 +63,23 @@ pub(crate) fn update_prefixes<F: Folding, T: PackedType<N>, const N: usize>(
         cells[place] = packed_wrapped::<T, N>(so_far);
     }
     so_far
+}
+
+/// The number in each cell becomes what the numbers up to it come to, from a start on, wrapped to the
+/// type. It answers what all come to.
+pub(crate) fn update_prefixes<F: Folding, T: PackedType<N>, const N: usize>(
+    start: i64,
+    cells: &mut [[u8; N]],
+) -> i64
+    ensures value { result ≡ fold F.taken start (map (number_of T.ty) cells.old) }
+    ensures packed { let numbers = map (number_of T.ty) cells.old in
+        cells.new ≡ map (bytes_of T.ty) (wrapped_prefixes T.ty F.taken start numbers) }
+{
+    let mut so_far = start;
+    let mut done = 0;
+    while AT_ONCE <= cells.len() - done {
+        so_far = update_part::<F, T, N>(so_far, &mut cells[done..done + AT_ONCE]);
+        done += AT_ONCE;
+    }
+    update_part::<F, T, N>(so_far, &mut cells[done..])
 }

@@ -7,8 +7,9 @@ ghost use Rattle.pdl_numbers.specs.Bytes.{number_of};
 ghost use Rattle.pdl_numbers.specs.Reads.{IsInside, LiesInside, HasRead, HasStepped};
 ghost use Rattle.pdl_numbers.specs.Shown.{IsInOrder, place_at};
 
-use crate::packed::{Packed, PackedType};
+use crate::packed::Packed;
 use crate::placement::{Placement, place_after, place_in_order, place_of};
+use crate::types::PackedType;
 use pdl_shape::{Triple, dims_list, incs_list, shape_laws};
 
 /// The numbers from a place on, each so far after the one before. They are counted in 32 bits, by
@@ -57,7 +58,7 @@ fn read_by_step<T: PackedType<N>, const N: usize>(
 }
 
 /// The number so many steps after a place.
-fn number_after<T: PackedType<N>, const N: usize>(
+pub(crate) fn number_after<T: PackedType<N>, const N: usize>(
     cells: &[[u8; N]],
     place: u32,
     inc: i32,

@@ -1,19 +1,22 @@
 //! Runs of numbers that are neighbours, worked on where they are kept.
-ghost use Rattle.std.specs.Prelude.{◌≡◌, ◌≢◌, ◌<◌, ◌≤◌, ◌+◌, ◌++◌, ℕ, ℤ, pos, length, take, drop, fold, All, IsTrue, IfOk, OnOk, OnErr};
+ghost use Rattle.std.specs.Prelude.{◌≡◌, ◌≢◌, ◌<◌, ◌≤◌, ◌+◌, ◌++◌, ℕ, pos, length, take, drop, fold, map, All, IsTrue, IfOk, OnOk, OnErr};
 ghost use Rattle.pdl_elem.specs.Blocks.{pairwise};
 ghost use Rattle.pdl_elem.specs.Operators.{divides, value_of};
 ghost use Rattle.pdl_shape.specs.Shape.{size_of};
 ghost use Rattle.pdl_shape.specs.Triple.{Reaches};
+ghost use Rattle.pdl_numbers.specs.Bytes.{ArePacked, bytes_of, number_of};
 ghost use Rattle.pdl_numbers.specs.Numbers.{elements_in};
 ghost use Rattle.pdl_numbers.specs.Prefixes.{wrapped_prefixes};
 ghost use Rattle.pdl_numbers.specs.Shown.{place_at, shown_through};
 
 use crate::numbers::Numbers;
+use crate::packed::{Packed, packed_value};
 use crate::placement::Placement;
-use crate::prefixes::Folding;
+use crate::prefixes::{Folding, update_prefixes};
 use crate::reads::{inc_along, run_length, size_along};
+use crate::types::PackedType;
 use crate::values::extend_values_of;
-use pdl_elem::{BinaryOp, Ty};
+use pdl_elem::{BinaryOp, KnownOp, Ty, block_laws, wrapping_laws};
 use pdl_shape::{elements_of, shape_laws};
 use std::alloc::{AllocError, Global};
 use std::marker::Model;
@@ -99,6 +102,92 @@ fn neighbours(placement: &Placement, first: u32) -> usize
     }
 }
 
+/// The number in each cell becomes an operator's value on it and the number in the other cell that
+/// stands for it.
+fn update_each<O: KnownOp, T: PackedType<N>, const N: usize>(
+    right: &[[u8; N]],
+    cells: &mut [[u8; N]],
+)
+    requires paired { length right.now ≡ length cells.old }
+    requires divisors { IsTrue (divides O.op) →
+        All (λ y. y ≢ pos 0) (map (number_of T.ty) right.now) }
+    ensures { let number = number_of T.ty in
+        let values = pairwise (value_of O.op T.ty) (map number cells.old) (map number right.now) in
+        cells.new ≡ map (bytes_of T.ty) values }
+{
+    wrapping_laws();
+    block_laws();
+    for (i, cell) in right.iter().enumerate() {
+        cells[i] = packed_value::<O, T, N>(T::unpack(&cells[i]), T::unpack(cell));
+    }
+}
+
+impl<T: PackedType<N>, const N: usize> Packed<T, N> {
+    /// Puts an operator's values on the numbers in each two cells after the others. The cells on the
+    /// left are copied there and changed where they stand: that takes less than to fill the room
+    /// with zeros first.
+    pub(crate) fn extend_values_of<O: KnownOp>(
+        &mut self,
+        left: &[[u8; N]],
+        right: &[[u8; N]],
+    ) -> Result<(), AllocError>
+        requires paired { length left.now ≡ length right.now }
+        requires divisors { IsTrue (divides O.op) →
+            All (λ y. y ≢ pos 0) (map (number_of T.ty) right.now) }
+        ensures ok { let number = number_of T.ty in
+            let f = value_of O.op T.ty in
+            let values = pairwise f (map number left.now) (map number right.now) in
+            OnOk result (self.new ≡ self.old ++ values) }
+        ensures err { OnErr result (self.new ≡ self.old) }
+    {
+        block_laws();
+        let start = self.cells.len();
+        self.cells.extend_from_slice(left)?;
+        update_each::<O, T, N>(right, &mut self.cells[start..]);
+        Ok(())
+    }
+
+    /// Puts what the numbers in cells come to up to each of them, from a start on, wrapped to the
+    /// type, after the others. It answers what all come to.
+    pub(crate) fn extend_prefixes_of<F: Folding>(
+        &mut self,
+        start: i64,
+        cells: &[[u8; N]],
+    ) -> Result<i64, AllocError>
+        ensures value { let numbers = map (number_of T.ty) cells.now in
+            IfOk result (λ end. end ≡ fold F.taken start numbers) }
+        ensures ok { let numbers = map (number_of T.ty) cells.now in
+            let new = wrapped_prefixes T.ty F.taken start numbers in
+            OnOk result (self.new ≡ self.old ++ new) }
+        ensures err { OnErr result (self.new ≡ self.old) }
+    {
+        wrapping_laws();
+        let first = self.cells.len();
+        self.cells.extend_from_slice(cells)?;
+        let end = update_prefixes::<F, T, N>(start, &mut self.cells[first..]);
+        Ok(end)
+    }
+
+    /// Puts the numbers in packed cells after the others. The cells are copied.
+    pub(crate) fn extend_cells(&mut self, cells: &[[u8; N]]) -> Result<(), AllocError>
+        requires { ArePacked T.ty cells.now }
+        ensures ok { OnOk result (self.new ≡ self.old ++ map (number_of T.ty) cells.now) }
+        ensures err { OnErr result (self.new ≡ self.old) }
+    {
+        self.cells.extend_from_slice(cells)
+    }
+
+    /// The cells in which so many numbers stand from a place on, of which there are enough.
+    pub(crate) fn part(&self, start: usize, count: usize) -> &[[u8; N]]
+        requires { start + count ≤ length self.now }
+        ensures value { map (number_of T.ty) result.now ≡ take count (drop start self.now) }
+        ensures packed { ArePacked T.ty result.now }
+    {
+        let _count = self.len();
+        &self.cells[start..start + count]
+    }
+}
+
 impl Numbers {
     /// Those of the numbers that a placement shows from a position on that are neighbours, in
     /// order: all that are left, or those left of a row, or none where a step along a row goes
@@ -158,7 +247,7 @@ impl Numbers {
             (Numbers::Longlongs(packed), Numbers::Longlongs(x), Numbers::Longlongs(y)) => {
                 extend_values_of(packed, op, x.part(a, n), y.part(b, n))
             }
-            _ => Ok(()),
+            _ => unreachable!(),
         }
     }
 
@@ -199,7 +288,7 @@ impl Numbers {
             (Numbers::Longlongs(packed), Numbers::Longlongs(x)) => {
                 packed.extend_prefixes_of::<F>(start, x.part(a, n))
             }
-            _ => Ok(start),
+            _ => unreachable!(),
         }
     }
 
@@ -221,7 +310,7 @@ impl Numbers {
             (Numbers::Longlongs(packed), Numbers::Longlongs(x)) => {
                 packed.extend_cells(x.part(a, n))
             }
-            _ => Ok(()),
+            _ => unreachable!(),
         }
     }
 }

@@ -7,8 +7,9 @@ ghost use Rattle.pdl_numbers.specs.Numbers.{elements_in};
 ghost use Rattle.pdl_numbers.specs.Shown.{IsInOrder, shown_through};
 
 use crate::numbers::Numbers;
-use crate::packed::{Packed, PackedType};
+use crate::packed::Packed;
 use crate::placement::Placement;
+use crate::types::PackedType;
 use pdl_shape::shape_laws;
 
 /// A sum and one number more, in words that wrap.

@@ -8,9 +8,10 @@ ghost use Rattle.pdl_numbers.specs.Shown.{IsInOrder, shown_through};
 ghost use Rattle.pdl_numbers.specs.Updates.{ShowsOnce, Suits, change, updated};
 ghost use Rattle.pdl_numbers.specs.Writes.{placed_from, stepped};
 
-use crate::packed::{Packed, PackedType};
+use crate::packed::Packed;
 use crate::placement::{Placement, place_in_order, place_of};
 use crate::reads::{inc_along, run_length, size_along};
+use crate::types::PackedType;
 use pdl_elem::{
     BinaryOp, ToAdd, ToAnd, ToDiv, ToEq, ToGe, ToGt, ToLe, ToLt, ToMul, ToNe, ToOr, ToRem, ToShl,
     ToShr, ToSub, ToXor,

@@ -5,7 +5,8 @@ ghost use Rattle.pdl_elem.specs.Operators.{divides, value_of};
 ghost use Rattle.pdl_elem.specs.Types.{InRange};
 ghost use Rattle.pdl_numbers.specs.Bytes.{number_of};
 
-use crate::packed::{Packed, PackedType};
+use crate::packed::Packed;
+use crate::types::PackedType;
 use pdl_elem::{
     BinaryOp, ToAdd, ToAnd, ToDiv, ToEq, ToGe, ToGt, ToLe, ToLt, ToMul, ToNe, ToOr, ToRem, ToShl,
     ToShr, ToSub, ToXor,

@@ -8,9 +8,10 @@ ghost use Rattle.pdl_numbers.specs.Reads.{IsInside};
 ghost use Rattle.pdl_numbers.specs.Shown.{IsInOrder};
 ghost use Rattle.pdl_numbers.specs.Writes.{onward, placed_from, stepped};
 
-use crate::packed::{Packed, PackedType};
+use crate::packed::Packed;
 use crate::placement::{Placement, place_after, place_in_order, place_of};
 use crate::reads::{inc_along, run_length, size_along};
+use crate::types::PackedType;
 use pdl_shape::{Triple, shape_laws};
 
 /// Puts values at the places from one on, each so far after the one before, one by one.

@@ -40,12 +40,13 @@ fn of_alike(alloc: Global, op: BinaryOp, a: &Strided<'_>, b: &Strided<'_>) -> Re
     let both = promote(strided_type(a), strided_type(b));
     let ty = binary_type(op, both, both);
     // that `a` has as many elements comes with its dimensions
-    let (_same, dims) = (strided_dims(a), copy_dims(strided_dims(b)));
-    let empty = Packing::new(alloc, ty, elements_of(&dims) as usize)?;
-    let elems = values(alloc, op, both, a, b, empty)?;
+    let _same = strided_dims(a);
+    let count = elements_of(strided_dims(b)) as usize;
+    let empty = Packing::new(alloc, ty, count)?;
+    let elems = values(alloc, op, both, a, b, count, empty)?;
     Ok(Made {
         ty,
-        dims,
+        dims: copy_dims(strided_dims(b)),
         elems: Elements::packed(elems),
     })
 }

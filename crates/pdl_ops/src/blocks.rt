@@ -1,4 +1,4 @@
-//! An operator on two windows of as many elements, in blocks.
+//! An operator on two windows of as many elements: run by run where that goes, and in blocks else.
 ghost use Rattle.std.specs.Prelude.{◌≡◌, ◌≢◌, ◌+◌, ◌++◌, ◌*◌, ◌<◌, ◌≤◌, pos, [], length, map, Ok, None, All, IsTrue, IfOk, IfSome, OnOk};
 ghost use Rattle.pdl_elem.specs.Blocks.{pairwise, zero_at};
 ghost use Rattle.pdl_elem.specs.Numbers.{wrapped};
@@ -87,11 +87,38 @@ fn put_block(
     }
 }
 
-/// The operator's values at the type on the elements of two windows of as many elements, each
-/// wrapped to the type. They are put into a packing of the type that they have, which is empty:
-/// run by run where that goes, and the others in blocks. It answers `DivideByZero` and `NoMemory`
-/// alone.
+/// The operator's values at the type on the elements of two windows of so many elements each,
+/// wrapped to the type. They are put into a packing of the type that they have, which is empty. It
+/// answers `DivideByZero` and `NoMemory` alone.
 pub(crate) fn values(
+    alloc: Global,
+    op: BinaryOp,
+    ty: Ty,
+    a: &Strided<'_>,
+    b: &Strided<'_>,
+    count: usize,
+    made: Packing,
+) -> Result<Packing, OpFault>
+    requires paired { length a.now.elems ≡ length b.now.elems }
+    requires count { count ≡ length b.now.elems }
+    requires empty { made ≡ record { ty = binary_result op ty ty; elems = [] } }
+    ensures value { let xs = map (wrapped ty) a.now.elems in
+        let ys = map (wrapped ty) b.now.elems in
+        Answers (λ made. made.elems) (values_of op ty xs ys) result }
+    ensures in_range { IfOk result (λ made. All (InRange (binary_result op ty ty)) made.elems) }
+    ensures count { IfOk result (λ made. length made.elems ≡ length b.now.elems) }
+{
+    if count <= FEW {
+        values_within(op, ty, a, b, made, 0, FEW, &mut [0; 3 * FEW])
+    } else {
+        many_values(alloc, op, ty, a, b, made)
+    }
+}
+
+/// What `values` answers of more elements: run by run where that goes, and the others in blocks. It
+/// stays a call: in line it would make the frame of each operator large.
+#[inline(never)]
+fn many_values(
     alloc: Global,
     op: BinaryOp,
     ty: Ty,
@@ -100,6 +127,7 @@ pub(crate) fn values(
     mut made: Packing,
 ) -> Result<Packing, OpFault>
     requires paired { length a.now.elems ≡ length b.now.elems }
+    requires some { 0 < length b.now.elems }
     requires empty { made ≡ record { ty = binary_result op ty ty; elems = [] } }
     ensures value { let xs = map (wrapped ty) a.now.elems in
         let ys = map (wrapped ty) b.now.elems in
@@ -108,18 +136,16 @@ pub(crate) fn values(
     ensures count { IfOk result (λ made. length made.elems ≡ length b.now.elems) }
 {
     let count = elements_of(strided_dims(b)) as usize;
-    if count <= FEW {
-        values_within(op, ty, a, b, made, 0, FEW, &mut [0; 3 * FEW])
-    } else {
-        let begun = begin_values(op, ty, a, b, &mut made)?;
-        let block = (count - begun).min(block_of(a).max(block_of(b)));
-        let mut room = vec![in alloc; 0; 3 * block]?;
-        values_within(op, ty, a, b, made, begun, block, &mut room)
-    }
+    let begun = begin_values(op, ty, a, b, &mut made)?;
+    let block = (count - begun).min(block_of(a).max(block_of(b)));
+    let mut room = vec![in alloc; 0; 3 * block]?;
+    values_within(op, ty, a, b, made, begun, block, &mut room)
 }
 
 /// What `values` answers, where so many values are put already: the others are found in blocks of
-/// so many at most, in a room for the operands and the values of one.
+/// so many at most, in a room for the operands and the values of one. It is in line where they are
+/// few, for which `begun` and `block` are known.
+#[inline(always)]
 fn values_within(
     op: BinaryOp,
     ty: Ty,

@@ -1,4 +1,5 @@
-//! A change of each element of a window, in blocks.
+//! A change of each element of a window, in blocks. Those that have the type already are copied run
+//! by run.
 ghost use Rattle.std.specs.Prelude.{◌≡◌, ◌≤◌, [], length, take, map, All, IfOk};
 ghost use Rattle.pdl_elem.specs.Numbers.{wrapped};
 ghost use Rattle.pdl_elem.specs.Types.{InRange};

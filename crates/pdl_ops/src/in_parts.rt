@@ -63,6 +63,16 @@ fn divisor_within(op: BinaryOp, ty: Ty, new: &Strided<'_>, room: &mut [i64]) -> 
     None
 }
 
+/// The same with a room of its own. It stays a call: in line the room would make the frame of each
+/// assignment large, also of those that don't divide.
+#[inline(never)]
+fn divisor_in(op: BinaryOp, ty: Ty, new: &Strided<'_>) -> Option<u32>
+    ensures { result ≡ zero_at op (map (wrapped ty) new.now.elems) }
+{
+    let mut room = [0; BLOCK];
+    divisor_within(op, ty, new, &mut room)
+}
+
 /// The position of the first divisor 0 among the new elements of an assignment by a sign to an
 /// array of a type: whatever stands there, the values are refused for it, and are never refused
 /// where there is none. Nothing is read where the sign doesn't divide. It takes no memory.
@@ -76,8 +86,7 @@ pub fn first_divisor(sign: AssignOp, target: Ty, new: &Strided<'_>) -> Option<u3
             if !divides(op) {
                 return None;
             }
-            let mut room = [0; BLOCK];
-            divisor_within(op, promote(target, strided_type(new)), new, &mut room)
+            divisor_in(op, promote(target, strided_type(new)), new)
         }
     }
 }

@@ -2,6 +2,7 @@
 ghost use Rattle.std.specs.Prelude.{◌≡◌, ◌≢◌, ◌+◌, ◌*◌, ◌<◌, ◌≤◌, [], length, take, true, All, Ok, Err, IfOk, is_ok};
 ghost use Rattle.pdl_buf.specs.Made.{IsMade, array_of};
 ghost use Rattle.pdl_elem.specs.Types.{InRange};
+ghost use Rattle.pdl_shape.specs.Shape.{extent_limit};
 ghost use Rattle.pdl_ops.specs.Answers.{Answers};
 ghost use Rattle.pdl_ops.specs.Parts.{part_values};
 ghost use Rattle.pdl_ops.specs.Values.{fits, values_for, new_values};
@@ -9,7 +10,7 @@ ghost use Rattle.pdl_ops.specs.declared.OpFault.TheVariants.{TooLarge};
 
 use crate::OpFault;
 use crate::blocks::FEW;
-use crate::in_parts::{first_divisor, value_laws, values_part};
+use crate::in_parts::{first_divisor, stretches, value_laws, values_part};
 use crate::operands::block_of;
 use pdl_buf::{Elements, Packing, Strided, stretched, strided_dims, strided_type};
 use pdl_elem::Ty;
@@ -74,18 +75,21 @@ fn part_within(
     values_part(sign, old, new, first, values, left, right);
 }
 
-/// The values that a sign gives for the elements that stand there and as many new ones, of which no
-/// divisor is 0. They are found in parts of so many at most, in a room for one, and put into an empty
-/// packing.
+/// The values that a sign gives for so many elements that stand there and as many new ones, of which
+/// no divisor is 0. They are found in parts of so many at most, in a room for one, and put into an
+/// empty packing.
 fn values_within(
     sign: AssignOp,
     old: &Strided<'_>,
     new: &Strided<'_>,
+    count: usize,
     mut made: Packing,
     block: usize,
     room: &mut [i64],
 ) -> Result<Packing, AllocError>
     requires paired { length old.now.elems ≡ length new.now.elems }
+    requires count { count ≡ length new.now.elems }
+    requires small { count ≤ extent_limit }
     requires empty { made ≡ record { ty = old.now.ty; elems = [] } }
     requires some { 0 < block }
     requires room { 3 * block ≤ length room.old }
@@ -96,7 +100,6 @@ fn values_within(
     ensures in_range { IfOk result (λ made. All (InRange old.now.ty) made.elems) }
 {
     value_laws();
-    let count = elements_of(strided_dims(new)) as usize;
     let mut done = 0;
     while done < count {
         let size = (count - done).min(block);
@@ -130,11 +133,11 @@ fn new_values(
     let count = elements_of(strided_dims(new)) as usize;
     let empty = nothing(alloc, keeping, ty, count)?;
     let made = if count <= FEW {
-        values_within(sign, old, new, empty, FEW, &mut [0; 3 * FEW])?
+        values_within(sign, old, new, count, empty, FEW, &mut [0; 3 * FEW])?
     } else {
         let block = count.min(block_of(old).max(block_of(new)));
         let mut room = vec![in alloc; 0; 3 * block]?;
-        values_within(sign, old, new, empty, block, &mut room)?
+        values_within(sign, old, new, count, empty, block, &mut room)?
     };
     Ok(Elements::packed(made))
 }
@@ -162,6 +165,32 @@ pub fn values_for(
     if dims_list(sizes) == dims_list(wanted) {
         return new_values(alloc, sign, target, value, keeping);
     }
+    if dims_list(sizes).len() > dims_list(wanted).len() {
+        return joined_values(alloc, sign, target, value, keeping);
+    }
+    if !stretches(sizes, wanted) {
+        return Err(OpFault::Mismatch);
+    }
+    new_values(alloc, sign, target, &stretched(value, wanted), keeping)
+}
+
+/// The same where the right side may have more dimensions than the target: each further one is 1
+/// then. Both are stretched to what they join to. It stays a call: hardly any assignment is so.
+#[inline(never)]
+fn joined_values(
+    alloc: Global,
+    sign: AssignOp,
+    target: &Strided<'_>,
+    value: &Strided<'_>,
+    keeping: Keeping,
+) -> Result<Elements, OpFault>
+    ensures value { let wanted = values_for sign (array_of target.now) (array_of value.now) in
+        Answers (λ made. made) wanted result }
+    ensures made { IfOk result (λ made. IsMade target.now.ty target.now.dims made) }
+    ensures never_large { result ≢ Err TooLarge }
+{
+    shape_laws();
+    let (sizes, wanted) = (strided_dims(value), strided_dims(target));
     if !fits(dims_list(sizes), dims_list(wanted)) {
         return Err(OpFault::Mismatch);
     }

@@ -19,7 +19,7 @@ among_repeats : (b x : Bool) → x ≡ true → cond b true x ≡ true
 among_repeats true x h = refl
 among_repeats false x h = h
 
-repeats_drop : (ps : List (Option ℕ)) (i : ℕ) → has_repeats (drop i ps) ≡ true → has_repeats ps ≡ true
+pub repeats_drop : (ps : List (Option ℕ)) (i : ℕ) → has_repeats (drop i ps) ≡ true → has_repeats ps ≡ true
 repeats_drop ps zero h = h
 repeats_drop [] (suc i) h = h
 repeats_drop (None ∷ ps) (suc i) h = repeats_drop ps i h

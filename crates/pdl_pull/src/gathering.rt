@@ -1,12 +1,13 @@
 //! Places that are gathered for a view.
 ghost use Rattle.std.specs.List.{range_with_len};
-ghost use Rattle.std.specs.Prelude.{◌≡◌, ℕ, ◌+◌, ◌<◌, ◌≤◌, IsTrue, true, false, length, map, option_and_then, All, IfOk};
+ghost use Rattle.std.specs.Prelude.{◌≡◌, ℕ, ◌+◌, ◌<◌, ◌≤◌, IsTrue, true, false, length, map, drop, option_and_then, All, IfOk};
 ghost use Rattle.pdl_shape.specs.Places.{AllBelow, IsBelow};
 ghost use Rattle.pdl_shape.specs.Shape.{size_of};
 ghost use Rattle.pdl_nodes.specs.Assigned.{entry};
 ghost use Rattle.pdl_nodes.specs.Families.{has_repeats, is_among};
 ghost use Rattle.pdl_nodes.specs.Placed.{placed_by};
 ghost use Rattle.pdl_pull.specs.Gathered.{own_at};
+ghost use Rattle.pdl_pull.specs.Seen.{AreFlagsOf};
 
 use crate::bit_set::BitSet;
 use pdl_buf::NoMemory;
@@ -15,6 +16,9 @@ use pdl_nodes::{Layout, entry, placed};
 use pdl_numbers::Placement;
 use pdl_shape::Triple;
 use std::alloc::Global;
+
+/// So many positions are gone through before it is asked whether a place came twice.
+const BLOCK: usize = 1024;
 
 /// Whether a place is among these.
 fn is_among(at: u32, places: &[Option<u32>]) -> bool
@@ -93,8 +97,63 @@ fn all_rise(places: &[Option<u32>]) -> bool
     true
 }
 
-/// Whether two positions have the same place, in one pass from the last position on.
+/// Whether two positions have the same place, in one pass from the last position on. The places
+/// that were seen are a set with a byte for each element of the root, where these are at most some
+/// eight times as many as the positions, and else one with a bit for each.
 fn has_twice_of_many(alloc: Global, places: &[Option<u32>], count: u32) -> Result<bool, NoMemory>
+    requires { AllBelow count places.now }
+    ensures { IfOk result (λ f. f ≡ has_repeats places.now) }
+{
+    if count as usize / 8 <= places.len() {
+        has_twice_by_bytes(alloc, places, count)
+    } else {
+        has_twice_by_bits(alloc, places, count)
+    }
+}
+
+/// Whether two positions have the same place, by a set with a byte for each element of the root. It
+/// is known at the end of a block of positions whether a place came twice.
+fn has_twice_by_bytes(alloc: Global, places: &[Option<u32>], count: u32) -> Result<bool, NoMemory>
+    requires { AllBelow count places.now }
+    ensures { IfOk result (λ f. f ≡ has_repeats places.now) }
+{
+    let mut seen = vec![in alloc; false; count as usize]?;
+    let mut twice = false;
+    let mut end = places.len();
+    while end > 0 && !twice {
+        let first = end.saturating_sub(BLOCK);
+        twice = flag_places(seen.as_mut_slice(), places, first, end);
+        end = first;
+    }
+    Ok(twice)
+}
+
+/// Flags the places of the positions of a block as seen, from its last on, where those behind the
+/// block are flagged and none of them comes twice. Answers whether one comes twice from the block's
+/// first position on. The loop goes on where one does, so that it has one end.
+fn flag_places(seen: &mut [bool], places: &[Option<u32>], first: usize, end: usize) -> bool
+    requires within { end ≤ length places.now }
+    requires ordered { first ≤ end }
+    requires below { AllBelow (length seen.old) places.now }
+    requires flags { AreFlagsOf (drop end places.now) seen.old }
+    requires once { has_repeats (drop end places.now) ≡ false }
+    ensures flags { AreFlagsOf (drop first places.now) seen.new }
+    ensures twice { result ≡ has_repeats (drop first places.now) }
+{
+    let mut twice = false;
+    let mut position = end;
+    while position > first {
+        position -= 1;
+        if let Some(at) = places[position] {
+            twice |= seen[at as usize];
+            seen[at as usize] = true;
+        }
+    }
+    twice
+}
+
+/// Whether two positions have the same place, by a set with a bit for each element of the root.
+fn has_twice_by_bits(alloc: Global, places: &[Option<u32>], count: u32) -> Result<bool, NoMemory>
     requires { AllBelow count places.now }
     ensures { IfOk result (λ f. f ≡ has_repeats places.now) }
 {

@@ -1,6 +1,6 @@
 //! Sums, products and extremes of the lists along dimension 0, many at once: an element of each
-//! list, then the next one of each. Where elements along dimension 1 lie closer together, the
-//! buffer is so read in its order.
+//! list, then the next one of each, taken in where it stands. Where elements along dimension 1 lie
+//! closer together, the buffer is so read in its order.
 ghost use Rattle.std.specs.Prelude.{◌≡◌, ◌<◌, ◌≤◌, ◌+◌, ◌*◌, ◌%◌, ◌++◌, ℕ, pos, length, fold, map, get_or, OnOk};
 ghost use Rattle.std.specs.List.{range_with_len};
 ghost use Rattle.pdl_shape.specs.Shape.{extent_limit};
@@ -9,35 +9,16 @@ ghost use Rattle.pdl_reduce.specs.Reductions.{nth_list};
 
 use crate::collected::Collected;
 use crate::matrices::size_at;
-use pdl_buf::{Strided, strided_dims, strided_read_across};
+use pdl_buf::{Strided, strided_dims, strided_take_across};
 use pdl_elem::{Ty, wrap_all};
 use pdl_numbers::Folding;
 use pdl_shape::dims_list;
 use std::alloc::AllocError;
 
-/// Takes a number into each of what those before them come to.
-fn take_each<F: Folding>(numbers: &[i64], so_far: &mut [i64])
-    requires { length numbers.now ≡ length so_far.old }
-    ensures { (j : ℕ) → j < length so_far.old → get_or so_far.new j (pos 0)
-        ≡ F.taken (get_or so_far.old j (pos 0)) (get_or numbers.now j (pos 0)) }
-{
-    for (j, come_to) in so_far.iter_mut().enumerate() {
-        *come_to = F::take(*come_to, numbers[j]);
-    }
-}
-
 /// What the lists along dimension 0 from one on come to, in one plane, as many as there is room
 /// for.
-fn fold_lists<F: Folding>(
-    a: &Strided<'_>,
-    first: u32,
-    size: u32,
-    start: i64,
-    row: &mut [i64],
-    so_far: &mut [i64],
-)
+fn fold_lists<F: Folding>(a: &Strided<'_>, first: u32, size: u32, start: i64, so_far: &mut [i64])
     requires size { size ≡ get_or a.now.dims 0 1 }
-    requires room { length row.old ≡ length so_far.old }
     requires some { 0 < length so_far.old }
     requires few { length so_far.old ≤ extent_limit }
     requires small { length a.now.elems ≤ extent_limit }
@@ -48,8 +29,7 @@ fn fold_lists<F: Folding>(
 {
     so_far.fill(start);
     for i in 0..size {
-        strided_read_across(a, first * size + i, row);
-        take_each::<F>(row, so_far);
+        strided_take_across::<F>(a, first * size + i, so_far);
     }
 }
 
@@ -72,12 +52,10 @@ fn add_part<F: Folding>(
     first: u32,
     size: u32,
     start: i64,
-    row: &mut [i64],
     so_far: &mut [i64],
     made: &mut Collected,
 ) -> Result<(), AllocError>
     requires size { size ≡ get_or a.now.dims 0 1 }
-    requires room { length row.old ≡ length so_far.old }
     requires some { 0 < length so_far.old }
     requires few { length so_far.old ≤ extent_limit }
     requires small { length a.now.elems ≤ extent_limit }
@@ -89,21 +67,20 @@ fn add_part<F: Folding>(
         OnOk result (made.new.elems ≡ made.old.elems ++ new) }
     ensures typed { OnOk result (made.new.ty ≡ made.old.ty) }
 {
-    fold_lists::<F>(a, first, size, start, row, so_far);
+    fold_lists::<F>(a, first, size, start, so_far);
     wrap_all(ty, so_far);
     made.extend(so_far)?;
     Ok(())
 }
 
 /// Puts what each of so many lists along dimension 0 comes to from a start on, wrapped to the
-/// type. There is room for a block of numbers, twice.
+/// type. There is room for a block of numbers.
 pub(crate) fn add_lists<F: Folding>(
     a: &Strided<'_>,
     ty: Ty,
     count: u32,
     size: u32,
     start: i64,
-    row: &mut [i64],
     so_far: &mut [i64],
     made: &mut Collected,
 ) -> Result<(), AllocError>
@@ -111,7 +88,6 @@ pub(crate) fn add_lists<F: Folding>(
     requires planes { 0 < get_or a.now.dims 1 1 }
     requires whole { count * size ≡ length a.now.elems }
     requires small { length a.now.elems ≤ extent_limit }
-    requires room { length row.old ≡ length so_far.old }
     requires some { 0 < count → 0 < length so_far.old }
     requires few { length so_far.old ≤ extent_limit }
     requires typed { made.old.ty ≡ ty }
@@ -125,8 +101,8 @@ pub(crate) fn add_lists<F: Folding>(
     while done < count {
         let left = so_far.len().min(count - done);
         let run = lists_in_plane(height, done, left);
-        let (row, so_far) = (&mut row[..run], &mut so_far[..run]);
-        add_part::<F>(a, ty, done as u32, size, start, row, so_far, made)?;
+        let so_far = &mut so_far[..run];
+        add_part::<F>(a, ty, done as u32, size, start, so_far, made)?;
         done += run;
     }
     Ok(())

@@ -139,10 +139,9 @@ fn folded_lists<F: Folding>(
         IfOk result (λ made. made ≡ record { ty = ty; elems = elems }) }
 {
     let width = BLOCK.min(count as usize);
-    let mut room = vec![in alloc; 0; 2 * width]?;
-    let (row, so_far) = room.split_at_mut(width);
+    let mut so_far = vec![in alloc; 0; width]?;
     let mut made = Collected::new(alloc, ty, count as usize)?;
-    add_lists::<F>(a, ty, count, size, start, row, so_far, &mut made)?;
+    add_lists::<F>(a, ty, count, size, start, &mut so_far, &mut made)?;
     made.packed()
 }
 

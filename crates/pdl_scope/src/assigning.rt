@@ -107,8 +107,45 @@ impl Scope {
                 || !is_followed(&self.engine, &self.flows, self.engine.root(target)))
     }
 
-    /// What `assign` does where no slot is attached and no flow follows.
+    /// What `assign` does where no slot is attached and no flow follows. How many elements the target
+    /// has is asked first: for few of them no other way is looked for than by a list.
     fn assign_alone<L: Ledger>(
+        &mut self,
+        sign: AssignOp,
+        target: ArrayId,
+        value: ArrayId,
+        readable: bool,
+        steps: &mut Steps<L>,
+    ) -> Result<(), ScopeFault>
+        requires target { IsLive self.old.arrays.world target }
+        requires value { IsLive self.old.arrays.world value }
+        requires unflowed { let root = root_of self.old.arrays.world target in
+            is_flow self.old.flows root ≡ false }
+        requires alone { IsAlone self.old target }
+        ensures runs { Assigns sign target value self.old self.new result }
+        ensures warm { IsTrue readable → OnOk result (IsWarm (engine_of self.new) target) }
+        ensures views { KeepsViews self.new.arrays.world self.old.arrays.world }
+        ensures counted { let e = engine_of self.old in
+            steps.new ≤ steps.old + (read_steps e target + read_steps e value)
+            + size_of (dims_in e.world target) }
+    {
+        if self.has_few(target) {
+            return self.assign_listed(sign, target, value, steps);
+        }
+        self.assign_many(sign, target, value, readable, steps)
+    }
+
+    /// Whether an array has no more elements than one block of an assignment.
+    fn has_few(&self, id: ArrayId) -> bool
+        requires { IsLive self.now.arrays.world id }
+    {
+        elements_of(self.engine.dims(id)) as usize <= BLOCK
+    }
+
+    /// What `assign_alone` does where the target has more elements than one block. It stays a call, as
+    /// `assign_in_blocks` does.
+    #[inline(never)]
+    fn assign_many<L: Ledger>(
         &mut self,
         sign: AssignOp,
         target: ArrayId,
@@ -134,9 +171,8 @@ impl Scope {
         self.assign_lent(sign, target, value, steps)
     }
 
-    /// Whether an assignment goes through the target's places, so that none of its elements is read:
-    /// there are more of them than one block has. To find out, the value is made one that can be lent,
-    /// which the assignment wants in any case.
+    /// Whether an assignment goes through the target's places, so that none of its elements is read. To
+    /// find out, the value is made one that can be lent, which the assignment wants in any case.
     fn goes_through<L: Ledger>(
         &mut self,
         sign: AssignOp,
@@ -156,15 +192,11 @@ impl Scope {
             OnOk result (steps.new + (read_steps f target + read_steps f value)
             ≤ steps.old + (read_steps e target + read_steps e value)) }
     {
-        let count = elements_of(self.engine.dims(target)) as usize;
-        if count <= BLOCK {
-            return Ok(false);
-        }
         ready(&mut self.engine, value, steps)?;
         Ok(goes_through(&self.engine, sign, target, value))
     }
 
-    /// What `assign_alone` does through the target's places, into its root. The target's own elements
+    /// What `assign_many` does through the target's places, into its root. The target's own elements
     /// aren't brought up to date.
     fn assign_through<L: Ledger>(
         &mut self,
@@ -187,7 +219,7 @@ impl Scope {
         Ok(assign_through(&mut self.engine, target, value, steps)?)
     }
 
-    /// What `assign_alone` does where the target is made one that can be lent.
+    /// What `assign_many` does where the target is made one that can be lent.
     fn assign_lent<L: Ledger>(
         &mut self,
         sign: AssignOp,
@@ -213,9 +245,9 @@ impl Scope {
         self.assign_listed(sign, target, value, steps)
     }
 
-    /// Whether an assignment is made block by block, without a list of its values: there are more
-    /// of them than one block has, and it is plain that no block reads what one before it wrote. To
-    /// find out, both arrays are made ones that can be lent, which the assignment wants in any case.
+    /// Whether an assignment is made block by block, without a list of its values: it is plain that no
+    /// block reads what one before it wrote. To find out, both arrays are made ones that can be lent,
+    /// which the assignment wants in any case.
     fn goes_in_blocks<L: Ledger>(
         &mut self,
         sign: AssignOp,
@@ -233,15 +265,11 @@ impl Scope {
             OnOk result (steps.new + (read_steps f target + read_steps f value)
             ≤ steps.old + (read_steps e target + read_steps e value)) }
     {
-        let count = elements_of(self.engine.dims(target)) as usize;
-        if count <= BLOCK {
-            return Ok(false);
-        }
         ready_two(&mut self.engine, target, value, steps)?;
         Ok(can_block(&self.engine, sign, target, value))
     }
 
-    /// What `assign_alone` does, block by block. All of the right side is looked at before the first
+    /// What `assign_many` does, block by block. All of the right side is looked at before the first
     /// write, and no memory is wanted. It stays a call: in line its rooms for a block would make the
     /// frame of each assignment large.
     #[inline(never)]
@@ -278,7 +306,9 @@ impl Scope {
         is_followed(&self.engine, &self.flows, self.engine.root(target))
     }
 
-    /// What `assign_alone` does, with a list of all values, which are found before one is written.
+    /// What `assign_alone` does, with a list of all values, which are found before one is written. It is
+    /// in line where few values are assigned.
+    #[inline(always)]
     fn assign_listed<L: Ledger>(
         &mut self,
         sign: AssignOp,

@@ -20,6 +20,7 @@ ghost use Rattle.pdl_scope.specs.Scope.{engine_of, machine};
 use crate::fault::ScopeFault;
 use crate::flowing::{end_flow, kept_shape, room_to_end};
 use crate::holding::{bind_one, hold_parent, note};
+use crate::laws::{cutting_laws, more_held_law};
 use crate::scope::Scope;
 use pdl_buf::Steps;
 use pdl_elem::Name;
@@ -42,7 +43,7 @@ impl Scope {
         ensures spent { let e = engine_of self.old in root_of e.world id ≡ id
             → MovesNothing e (engine_of self.new) steps.old steps.new }
     {
-        keeping_laws();
+        more_held_law();
         let room = room_to_end(&self.flows, id);
         self.leaving.reserve(room)?;
         cut_apart(&mut self.engine, &mut self.leaving, id, steps)?;
@@ -130,7 +131,7 @@ impl Scope {
             let wanted = and_then names (λ ns. Ok (after ns, [])) in
             Runs wanted self.old self.new [] [] result }
     {
-        keeping_laws();
+        more_held_law();
         self.leaving.reserve(1)?;
         match self.names.remove(name) {
             Some(had) => {
@@ -165,9 +166,7 @@ fn cut_apart<L: Ledger>(
     ensures count { length leaving.new.items ≤ length leaving.old.items + 1 }
     ensures room { vec_capacity leaving.old ≤ vec_capacity leaving.new }
 {
-    cut_laws();
-    keeping_laws();
-    flow_laws();
+    cutting_laws();
     hold_parent(engine, leaving, id);
     engine.sever(id, steps)
 }

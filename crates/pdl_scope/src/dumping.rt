@@ -21,15 +21,15 @@ ghost use Rattle.pdl_scope.specs.Scope.{engine_of, machine, OnlyReads};
 use crate::fault::ScopeFault;
 use crate::flows::KeptFlow;
 use crate::kernels::Kernels;
+use crate::laws::{dumping_laws, lines_law};
 use crate::names::Names;
 use crate::reading::ready;
 use crate::scope::Scope;
 use pdl_buf::Steps;
 use pdl_elem::Name;
 use pdl_engine::{ArrayId, Engine};
-use pdl_image::{ImageWriter, Stems, dump_laws};
+use pdl_image::{ImageWriter, Stems};
 use pdl_machine::{Fault, MOST_NAMES};
-use pdl_world::{growth_laws, newest_laws};
 use std::alloc::{AllocError, Global};
 use std::sync::ledger::Ledger;
 
@@ -103,8 +103,7 @@ fn dump_text<L: Ledger>(
     ensures counted { let e = engine.old in
         steps.new ≤ steps.old + sum_by (dump_steps e) e.world }
 {
-    dump_laws();
-    growth_laws();
+    lines_law();
     let stem = free_stem(alloc, names)?;
     let ids = all_numbers(alloc, engine)?;
     let mut image = ImageWriter::new(alloc, stem);
@@ -131,8 +130,7 @@ fn all_numbers(alloc: Global, engine: &Engine) -> Result<Vec<ArrayId>, AllocErro
     requires { IsSound engine.now.world }
     ensures { IfOk result (λ ids. ids.items ≡ array_numbers engine.now.world) }
 {
-    growth_laws();
-    newest_laws();
+    dumping_laws();
     let mut ids = Vec::with_capacity(alloc, engine.live() as usize)?;
     let mut next = engine.next_live(None);
     while let Some(id) = next {
@@ -171,9 +169,8 @@ fn write_arrays<L: Ledger>(
     ensures counted { let e = engine.old in
         steps.new ≤ steps.old + sum_by (dump_steps e) e.world }
 {
-    dump_laws();
-    growth_laws();
-    newest_laws();
+    lines_law();
+    dumping_laws();
     for at in 0..ids.len() {
         write_array(engine, ids, at, image, steps)?;
     }
@@ -199,8 +196,7 @@ fn write_array<L: Ledger>(
     ensures counted { let e = engine.old in
         steps.new ≤ steps.old + dump_steps e (array_at e.world at) }
 {
-    growth_laws();
-    newest_laws();
+    dumping_laws();
     let id = ids[at];
     match engine.parent(id) {
         Some(parent) => write_view(engine, id, at, place_of(ids, parent), image),
@@ -260,7 +256,7 @@ fn write_names(names: &Names, ids: &[ArrayId], image: &mut ImageWriter) -> Resul
     ensures { let lines = name_lines image.old.stem ids.now names.now.entries in
         WritesLines image.old image.new 0 lines result }
 {
-    dump_laws();
+    lines_law();
     for index in 0..names.len() {
         let (name, id) = names.entry(index);
         image.name(name, place_of(ids, id))?;

@@ -11,13 +11,11 @@ ghost use Rattle.pdl_scope.specs.Room.{with_names};
 ghost use Rattle.pdl_scope.specs.Holding.{AreHeld, AreHeldBeside, IsHeldBeside, IsHeldForName, IsHeldWith, SameButHolds, StaysHeld, StaysHeldFor, LetsGo};
 ghost use Rattle.pdl_scope.specs.LetGo.{GoesOn};
 
-use crate::laws::holding_laws;
+use crate::laws::{holding_laws, releasing_laws};
 use crate::names::Names;
 use pdl_buf::Steps;
 use pdl_elem::Name;
-use pdl_engine::{ArrayId, Engine, hold_laws};
-use pdl_machine::numbering_laws;
-use pdl_world::{keeping_laws, sweep_laws};
+use pdl_engine::{ArrayId, Engine};
 use std::sync::ledger::Ledger;
 
 /// Notes an array at the end of a list that has room for it.
@@ -165,10 +163,7 @@ pub(crate) fn release_all<L: Ledger>(engine: &mut Engine, leaving: &[ArrayId], s
         → LetsGo staying engine.old engine.new [] }
     ensures goes_on { GoesOn engine.old engine.new steps.old steps.new }
 {
-    sweep_laws();
-    keeping_laws();
-    numbering_laws();
-    hold_laws();
+    releasing_laws();
     for id in leaving {
         engine.holds_law();
         engine.lazy_law();

@@ -7,9 +7,10 @@ ghost use Rattle.pdl_scope.specs.Answers.{IsFault};
 ghost use Rattle.pdl_scope.specs.Dumping.{HasRoom, WritesLines, kernel_lines};
 
 use crate::fault::ScopeFault;
+use crate::laws::lines_law;
 use indexmap::IndexMap;
 use pdl_elem::{Name, Text};
-use pdl_image::{ImageWriter, dump_laws};
+use pdl_image::ImageWriter;
 use pdl_kernel::Kernel;
 use pdl_machine::{Fault, MOST_KERNELS};
 use std::alloc::Global;
@@ -111,7 +112,7 @@ impl Kernels {
         requires { HasRoom image.old }
         ensures { WritesLines image.old image.new 0 (kernel_lines self.now) result }
     {
-        dump_laws();
+        lines_law();
         for index in 0..self.kernels.len() {
             let (name, defined) = self.entry(index);
             image.kernel(name, &defined.signature, &defined.code)?;

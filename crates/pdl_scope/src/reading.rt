@@ -1,26 +1,28 @@
 //! Reading the elements of arrays. What can be lent is read without a step.
-ghost use Rattle.std.specs.Prelude.{◌≡◌, IsTrue, ◌+◌, ◌≤◌, ◌<◌, length, All, IfOk, None, is_some, true, OnOk};
+ghost use Rattle.std.specs.Prelude.{◌≡◌, ◌≢◌, IsTrue, ◌+◌, ◌≤◌, ◌<◌, length, All, IfOk, None, is_some, true, false, OnOk};
 ghost use Rattle.pdl_elem.specs.Types.{InRange};
 ghost use Rattle.pdl_shape.specs.Shape.{size_of};
 ghost use Rattle.pdl_buf.specs.Made.{IsMade};
 ghost use Rattle.pdl_choice.specs.Where.{rises, which};
 ghost use Rattle.pdl_ops.specs.Elementwise.{converted};
+ghost use Rattle.pdl_world.specs.Paths.{root_of};
 ghost use Rattle.pdl_world.specs.World.{dims_in, ty_in, elements};
 ghost use Rattle.pdl_world.specs.Sound.{IsLive};
 ghost use Rattle.pdl_machine.specs.Arrays.{array_in};
 ghost use Rattle.pdl_machine.specs.Fills.{only};
 ghost use Rattle.pdl_engine.specs.Reading.{read_steps};
-ghost use Rattle.pdl_engine.specs.State.{is_fresh, SameArrays, StayFresh};
+ghost use Rattle.pdl_engine.specs.State.{base, is_fresh, SameArrays, StayFresh};
 ghost use Rattle.pdl_scope.specs.Costs.{ReadsNoDearer};
 ghost use Rattle.pdl_scope.specs.Scope.{engine_of, OnlyReads};
 
 use crate::scope::Scope;
-use pdl_buf::{Made, Steps, strided_get};
+use pdl_assign::BLOCK;
+use pdl_buf::{Elements, Made, Steps, strided_get};
 use pdl_choice::{Positions, which_places};
 use pdl_elem::Ty;
 use pdl_engine::{ArrayId, Engine, all_shown};
 use pdl_ops::{convert, copied};
-use pdl_shape::elements_of;
+use pdl_shape::{copy_dims, elements_of};
 use std::alloc::{AllocError, Global};
 use std::sync::ledger::Ledger;
 
@@ -95,7 +97,8 @@ impl Scope {
         Ok(Some(strided_get(&self.engine.lend(id), 0)))
     }
 
-    /// A new array like an array.
+    /// A new array like an array. A view that goes when the statement ends isn't brought up to date
+    /// for it where it has more elements than one block.
     pub fn copied<L: Ledger>(
         &mut self,
         id: ArrayId,
@@ -107,8 +110,47 @@ impl Scope {
         ensures same { OnlyReads self.old self.new }
         ensures counted { steps.new ≤ steps.old + read_steps (engine_of self.old) id }
     {
+        if self.is_passing(id) {
+            return self.gathered(id, steps);
+        }
         ready(&mut self.engine, id, steps)?;
         copied(self.alloc, &self.engine.lend(id))
+    }
+
+    /// Whether an array is a view of more elements than one block that wasn't read, and the newest of
+    /// those that go when the statement ends: so nothing reads it again.
+    fn is_passing(&self, id: ArrayId) -> bool
+        requires { IsLive self.now.arrays.world id }
+        ensures own { let w = self.now.arrays.world in result ≡ true → base w id ≡ id }
+        ensures view { let w = self.now.arrays.world in result ≡ true → root_of w id ≢ id }
+        ensures stale { result ≡ true → is_fresh (engine_of self.now) id ≡ false }
+    {
+        self.leaving.last().copied() == Some(id)
+            && elements_of(self.engine.dims(id)) as usize > BLOCK
+            && self.engine.is_unread(id)
+    }
+
+    /// A new array like a view that wasn't read, whose elements are gathered from its root. It stays a
+    /// call: in line it would make the frame of each copy large.
+    #[inline(never)]
+    fn gathered<L: Ledger>(&mut self, id: ArrayId, steps: &mut Steps<L>) -> Result<Made, AllocError>
+        requires live { IsLive self.old.arrays.world id }
+        requires own { base self.old.arrays.world id ≡ id }
+        requires view { root_of self.old.arrays.world id ≢ id }
+        requires stale { is_fresh (engine_of self.old) id ≡ false }
+        ensures value { IfOk result (λ m. m ≡ array_in self.old.arrays id) }
+        ensures made { IfOk result (λ m. IsMade m.ty m.dims m.elems) }
+        ensures same { OnlyReads self.old self.new }
+        ensures counted { steps.new ≤ steps.old + read_steps (engine_of self.old) id }
+    {
+        let ty = self.engine.ty(id);
+        let dims = copy_dims(self.engine.dims(id));
+        let buf = self.engine.gathered(id, steps)?;
+        Ok(Made {
+            ty,
+            dims,
+            elems: Elements::kept(buf),
+        })
     }
 
     /// A new array of an array's elements, each wrapped to a type.

@@ -21,14 +21,13 @@ use crate::fault::ScopeFault;
 use crate::flows::KeptFlow;
 use crate::following::{Change, find_change};
 use crate::holding::note_some;
-use crate::laws::holding_laws;
+use crate::laws::{detaching_laws, holding_laws};
 use crate::scope::Scope;
 use pdl_buf::Steps;
 use pdl_engine::{ArrayId, Engine};
-use pdl_machine::watching_laws;
 use pdl_shape::elements_of;
 use pdl_watch::{Notice, change_laws, changes};
-use pdl_world::{assignment_laws, keeping_laws, part_laws};
+use pdl_world::{assignment_laws, part_laws};
 use std::alloc::{AllocError, Global};
 use std::sync::ledger::Ledger;
 
@@ -66,8 +65,7 @@ impl Scope {
             let wanted = Ok (record (machine self.old) { watches = watches }, []) in
             Runs wanted self.old self.new [] [] result }
     {
-        keeping_laws();
-        watching_laws();
+        detaching_laws();
         self.leaving.reserve(1)?;
         let had = detach(&mut self.watches, slot);
         note_some(&mut self.leaving, had);

@@ -1,9 +1,8 @@
 -- Each round adds the places of one position of the windows.
-use Rattle.std.proofs.Common.{◌≡◌, ◌⊎◌, ◌∙◌, ◌++◌, ◌+◌, ◌-◌, ◌*◌, ◌/◌, ◌%◌, ◌<◌, ◌≤◌, ℕ, zero, suc, List, ℤ, All, ap, sym, subst, arith, length, map, pos, refl, replicate, get_or, None, Some}
+use Rattle.std.proofs.Common.{◌≡◌, ◌⊎◌, ◌∙◌, ◌++◌, ◌+◌, ◌-◌, ◌*◌, ◌/◌, ◌%◌, ◌<◌, ℕ, zero, suc, List, ℤ, ap, sym, subst, arith, length, map, pos, refl, replicate, get_or, None, Some}
 use Rattle.std.specs.List.{Any, range_with_len}
 use Rattle.std.specs.Option.{unwrap_or}
 use Rattle.std.proofs.lemmas.List.{with_items_is}
-use Rattle.std.proofs.lemmas.List.FromFn.{length-map-range_with_len}
 use Rattle.pdl_shape.specs.Shape.{coordinates_of, size_of}
 use Rattle.pdl_choice.specs.declared.edges.Edge.TheVariants.{Zero}
 use Rattle.pdl_choice.specs.Range.{inner_dims}
@@ -20,14 +19,6 @@ some_each count zero b is h = absurd (omega arith)
 some_each count (suc a) zero is h = absurd (omega arith)
 some_each count (suc a) (suc b) is h = (omega arith, omega arith)
 
-pub corner_places-requires-clause-within : goal.corner_places-requires-clause-within
-corner_places-requires-clause-within c =
-    let some = some_each c.args.count c.args.corners (size_of (inner_dims c.args.parent.now c.args.windows.now)) c.requires.counts c.requires.some in
-    let first : List ℕ = c.deref.result.now in
-    let first_is : first ≡ coordinates_of (rounds c.args.parent.now c.args.windows.now) 0 = c.deref.ensures.value ∙ first_round c.args.parent.now c.args.windows.now c.in_ok-sizes.sizes.items c.in_ok-at.at.items _ (rounds_are c.shape_laws.ensures.sizes c.args.parent.now c.args.windows.now _ c.requires.inner_bounded c.in_ok-sizes.ensures) (omega (arith, c.len.ensures, c.in_ok-sizes.sizes.ok)) (c.in_ok-at.ensures.items_if_clones_equal (λ y e. e)) in
-    let first_long : length first ≡ length c.args.windows.now + 1 = at_long c.args.parent.now c.args.windows.now first 0 first_is in
-    (at_round c.shape_laws.ensures.positions c.args.parent.now c.args.windows.now first 0 (length first - 1) c.requires.fit some.1 first_is refl).left
-
 pub loop-round-init : goal.loop-round-init
 loop-round-init c = record {
   at = first_round c.args.parent.now c.args.windows.now c.in_ok-sizes.sizes.items c.in_ok-at.at.items _ (rounds_are c.shape_laws.ensures.sizes c.args.parent.now c.args.windows.now _ c.requires.inner_bounded c.in_ok-sizes.ensures) (omega (arith, c.len.ensures, c.in_ok-sizes.sizes.ok)) (c.in_ok-at.ensures.items_if_clones_equal (λ y e. e));
@@ -37,46 +28,42 @@ loop-round-init c = record {
 pub push_round-requires-clause-paired : goal.push_round-requires-clause-paired
 push_round-requires-clause-paired c =
     let progress = rounds_below c.args.count c.args.corners (size_of (inner_dims c.args.parent.now c.args.windows.now)) _ c.loop-round._round c.requires.counts c.rounds_of-round-end.ensures.none c.rounds_of-round-end.ensures.some c.loop-round-test.true in
-    let at : List ℕ = c.deref-in-loop-round-3.result.now in
-    let at_is : at ≡ coordinates_of (rounds c.args.parent.now c.args.windows.now) c.loop-round._round = c.deref-in-loop-round-3.ensures.value ∙ c.loop-round.invariant.at in
+    let at : List ℕ = c.deref-in-loop-round.result.now in
+    let at_is : at ≡ coordinates_of (rounds c.args.parent.now c.args.windows.now) c.loop-round._round = c.deref-in-loop-round.ensures.value ∙ c.loop-round.invariant.at in
     let long : length at ≡ length c.args.windows.now + 1 = at_long c.args.parent.now c.args.windows.now at c.loop-round._round at_is in
     let here : AtWindow c.args.parent.now c.args.windows.now at (length c.args.windows.now) = at_round c.shape_laws.ensures.positions c.args.parent.now c.args.windows.now at c.loop-round._round (length c.args.windows.now) c.requires.fit progress.1 at_is (omega (arith, long)) in
-    let zeros : List ℤ = c.deref-in-loop-round-2.result.now in
-    let zeros_are : zeros ≡ replicate (length c.args.windows.now) (pos 0) = c.deref-in-loop-round-2.ensures.value ∙ c.in_ok-zeros.ensures.items_if_clones_equal (λ y e. e) in
+    let zeros : List ℤ = c.deref.result.now in
+    let zeros_are : zeros ≡ replicate (length c.args.windows.now) (pos 0) = c.deref.ensures.value ∙ c.in_ok-zeros.ensures.items_if_clones_equal (λ y e. e) in
     let zeros_long : length zeros ≡ length c.args.windows.now = many_zeros zeros (length c.args.windows.now) zeros_are in
     omega (arith, long, zeros_long)
 
 pub push_round-requires-clause-fit : goal.push_round-requires-clause-fit
 push_round-requires-clause-fit c =
-    let zeros : List ℤ = c.deref-in-loop-round-2.result.now in
-    let zeros_are : zeros ≡ replicate (length c.args.windows.now) (pos 0) = c.deref-in-loop-round-2.ensures.value ∙ c.in_ok-zeros.ensures.items_if_clones_equal (λ y e. e) in
+    let zeros : List ℤ = c.deref.result.now in
+    let zeros_are : zeros ≡ replicate (length c.args.windows.now) (pos 0) = c.deref.ensures.value ∙ c.in_ok-zeros.ensures.items_if_clones_equal (λ y e. e) in
     let zeros_long : length zeros ≡ length c.args.windows.now = many_zeros zeros (length c.args.windows.now) zeros_are in
     omega (arith, zeros_long, c.requires.fit)
 
 pub push_round-requires-clause-whole : goal.push_round-requires-clause-whole
 push_round-requires-clause-whole c =
-    let zeros : List ℤ = c.deref-in-loop-round-2.result.now in
-    let zeros_are : zeros ≡ replicate (length c.args.windows.now) (pos 0) = c.deref-in-loop-round-2.ensures.value ∙ c.in_ok-zeros.ensures.items_if_clones_equal (λ y e. e) in
+    let zeros : List ℤ = c.deref.result.now in
+    let zeros_are : zeros ≡ replicate (length c.args.windows.now) (pos 0) = c.deref.ensures.value ∙ c.in_ok-zeros.ensures.items_if_clones_equal (λ y e. e) in
     let zeros_long : length zeros ≡ length c.args.windows.now = many_zeros zeros (length c.args.windows.now) zeros_are in
-    let bases : List ℕ = c.deref-in-loop-round.result.now in
-    let bases_long : length bases ≡ c.args.corners = ap length c.deref-in-loop-round.ensures.value ∙ ap length c.in_ok-bases.ensures.places ∙ length-map-range_with_len (λ q. unwrap_or (placed Zero c.args.parent.now (numbers_at c.args.ind.now (length c.deref.result.now - 1) q) c.deref.result.now) 0) 0 c.args.corners in
-    c.requires.whole ∙ ap (λ n. n * c.args.corners) (sym zeros_long) ∙ ap (λ n. length zeros * n) (sym bases_long)
+    c.requires.whole ∙ ap (λ n. n * c.args.corners) (sym zeros_long) ∙ ap (λ n. length zeros * n) (sym c.requires.long)
 
 pub push_round-requires-clause-numbers : goal.push_round-requires-clause-numbers
 push_round-requires-clause-numbers c =
-    let bases : List ℕ = c.deref-in-loop-round.result.now in
-    let bases_long : length bases ≡ c.args.corners = ap length c.deref-in-loop-round.ensures.value ∙ ap length c.in_ok-bases.ensures.places ∙ length-map-range_with_len (λ q. unwrap_or (placed Zero c.args.parent.now (numbers_at c.args.ind.now (length c.deref.result.now - 1) q) c.deref.result.now) 0) 0 c.args.corners in
-    subst (λ (n : ℕ). All (λ q. q < n) c.args.beyond.now) (sym bases_long) c.requires.numbers
+    c.requires.known.numbers
 
 pub push_round-requires-clause-allowed : goal.push_round-requires-clause-allowed
 push_round-requires-clause-allowed c =
     let progress = rounds_below c.args.count c.args.corners (size_of (inner_dims c.args.parent.now c.args.windows.now)) _ c.loop-round._round c.requires.counts c.rounds_of-round-end.ensures.none c.rounds_of-round-end.ensures.some c.loop-round-test.true in
-    let at : List ℕ = c.deref-in-loop-round-3.result.now in
-    let at_is : at ≡ coordinates_of (rounds c.args.parent.now c.args.windows.now) c.loop-round._round = c.deref-in-loop-round-3.ensures.value ∙ c.loop-round.invariant.at in
+    let at : List ℕ = c.deref-in-loop-round.result.now in
+    let at_is : at ≡ coordinates_of (rounds c.args.parent.now c.args.windows.now) c.loop-round._round = c.deref-in-loop-round.ensures.value ∙ c.loop-round.invariant.at in
     let long : length at ≡ length c.args.windows.now + 1 = at_long c.args.parent.now c.args.windows.now at c.loop-round._round at_is in
     let here : AtWindow c.args.parent.now c.args.windows.now at (length c.args.windows.now) = at_round c.shape_laws.ensures.positions c.args.parent.now c.args.windows.now at c.loop-round._round (length c.args.windows.now) c.requires.fit progress.1 at_is (omega (arith, long)) in
-    let zeros : List ℤ = c.deref-in-loop-round-2.result.now in
-    let zeros_are : zeros ≡ replicate (length c.args.windows.now) (pos 0) = c.deref-in-loop-round-2.ensures.value ∙ c.in_ok-zeros.ensures.items_if_clones_equal (λ y e. e) in
+    let zeros : List ℤ = c.deref.result.now in
+    let zeros_are : zeros ≡ replicate (length c.args.windows.now) (pos 0) = c.deref.ensures.value ∙ c.in_ok-zeros.ensures.items_if_clones_equal (λ y e. e) in
     let zeros_long : length zeros ≡ length c.args.windows.now = many_zeros zeros (length c.args.windows.now) zeros_are in
     subst (λ (n : ℕ). CanPlaceAll c.args.edge c.args.parent.now c.args.ind.now n at) (sym zeros_long)
     (all_placed c.args.edge c.args.parent.now c.args.windows.now c.args.ind.now at (length c.args.windows.now) here c.requires.allowed)
@@ -84,69 +71,57 @@ push_round-requires-clause-allowed c =
 pub push_round-requires-clause-within : goal.push_round-requires-clause-within
 push_round-requires-clause-within c =
     let progress = rounds_below c.args.count c.args.corners (size_of (inner_dims c.args.parent.now c.args.windows.now)) _ c.loop-round._round c.requires.counts c.rounds_of-round-end.ensures.none c.rounds_of-round-end.ensures.some c.loop-round-test.true in
-    let at : List ℕ = c.deref-in-loop-round-3.result.now in
-    let at_is : at ≡ coordinates_of (rounds c.args.parent.now c.args.windows.now) c.loop-round._round = c.deref-in-loop-round-3.ensures.value ∙ c.loop-round.invariant.at in
+    let at : List ℕ = c.deref-in-loop-round.result.now in
+    let at_is : at ≡ coordinates_of (rounds c.args.parent.now c.args.windows.now) c.loop-round._round = c.deref-in-loop-round.ensures.value ∙ c.loop-round.invariant.at in
     let long : length at ≡ length c.args.windows.now + 1 = at_long c.args.parent.now c.args.windows.now at c.loop-round._round at_is in
     let here : AtWindow c.args.parent.now c.args.windows.now at (length c.args.windows.now) = at_round c.shape_laws.ensures.positions c.args.parent.now c.args.windows.now at c.loop-round._round (length c.args.windows.now) c.requires.fit progress.1 at_is (omega (arith, long)) in
-    let zeros : List ℤ = c.deref-in-loop-round-2.result.now in
-    let zeros_are : zeros ≡ replicate (length c.args.windows.now) (pos 0) = c.deref-in-loop-round-2.ensures.value ∙ c.in_ok-zeros.ensures.items_if_clones_equal (λ y e. e) in
+    let zeros : List ℤ = c.deref.result.now in
+    let zeros_are : zeros ≡ replicate (length c.args.windows.now) (pos 0) = c.deref.ensures.value ∙ c.in_ok-zeros.ensures.items_if_clones_equal (λ y e. e) in
     let zeros_long : length zeros ≡ length c.args.windows.now = many_zeros zeros (length c.args.windows.now) zeros_are in
     round_left c.args.parent.now c.args.windows.now zeros at (length c.args.windows.now) here zeros_are
 
 pub push_round-requires-clause-small : goal.push_round-requires-clause-small
 push_round-requires-clause-small c =
-    subst (All (λ (base : ℕ). base ≤ size_of c.args.parent.now)) (sym c.deref-in-loop-round.ensures.value) c.in_ok-bases.ensures.inside
+    c.requires.known.small
 
 pub push_round-requires-clause-inside : goal.push_round-requires-clause-inside
 push_round-requires-clause-inside c q h =
     let progress = rounds_below c.args.count c.args.corners (size_of (inner_dims c.args.parent.now c.args.windows.now)) _ c.loop-round._round c.requires.counts c.rounds_of-round-end.ensures.none c.rounds_of-round-end.ensures.some c.loop-round-test.true in
-    let at : List ℕ = c.deref-in-loop-round-3.result.now in
-    let at_is : at ≡ coordinates_of (rounds c.args.parent.now c.args.windows.now) c.loop-round._round = c.deref-in-loop-round-3.ensures.value ∙ c.loop-round.invariant.at in
+    let at : List ℕ = c.deref-in-loop-round.result.now in
+    let at_is : at ≡ coordinates_of (rounds c.args.parent.now c.args.windows.now) c.loop-round._round = c.deref-in-loop-round.ensures.value ∙ c.loop-round.invariant.at in
     let long : length at ≡ length c.args.windows.now + 1 = at_long c.args.parent.now c.args.windows.now at c.loop-round._round at_is in
     let here : AtWindow c.args.parent.now c.args.windows.now at (length c.args.windows.now) = at_round c.shape_laws.ensures.positions c.args.parent.now c.args.windows.now at c.loop-round._round (length c.args.windows.now) c.requires.fit progress.1 at_is (omega (arith, long)) in
-    let some = some_each c.args.count c.args.corners (size_of (inner_dims c.args.parent.now c.args.windows.now)) c.requires.counts c.requires.some in
-    let first : List ℕ = c.deref.result.now in
-    let first_is : first ≡ coordinates_of (rounds c.args.parent.now c.args.windows.now) 0 = c.deref.ensures.value ∙ first_round c.args.parent.now c.args.windows.now c.in_ok-sizes.sizes.items c.in_ok-at.at.items _ (rounds_are c.shape_laws.ensures.sizes c.args.parent.now c.args.windows.now _ c.requires.inner_bounded c.in_ok-sizes.ensures) (omega (arith, c.len.ensures, c.in_ok-sizes.sizes.ok)) (c.in_ok-at.ensures.items_if_clones_equal (λ y e. e)) in
-    let first_long : length first ≡ length c.args.windows.now + 1 = at_long c.args.parent.now c.args.windows.now first 0 first_is in
-    let zeros : List ℤ = c.deref-in-loop-round-2.result.now in
-    let zeros_are : zeros ≡ replicate (length c.args.windows.now) (pos 0) = c.deref-in-loop-round-2.ensures.value ∙ c.in_ok-zeros.ensures.items_if_clones_equal (λ y e. e) in
+    let zeros : List ℤ = c.deref.result.now in
+    let zeros_are : zeros ≡ replicate (length c.args.windows.now) (pos 0) = c.deref.ensures.value ∙ c.in_ok-zeros.ensures.items_if_clones_equal (λ y e. e) in
     let zeros_long : length zeros ≡ length c.args.windows.now = many_zeros zeros (length c.args.windows.now) zeros_are in
-    let bases : List ℕ = c.deref-in-loop-round.result.now in
-    let bases_long : length bases ≡ c.args.corners = ap length c.deref-in-loop-round.ensures.value ∙ ap length c.in_ok-bases.ensures.places ∙ length-map-range_with_len (λ q. unwrap_or (placed Zero c.args.parent.now (numbers_at c.args.ind.now (length c.deref.result.now - 1) q) c.deref.result.now) 0) 0 c.args.corners in
-    let start : AtWindow c.args.parent.now c.args.windows.now first (length c.args.windows.now) = at_round c.shape_laws.ensures.positions c.args.parent.now c.args.windows.now first 0 (length c.args.windows.now) c.requires.fit some.1 first_is (omega (arith, first_long)) in
-    let bases_are : bases ≡ map (λ q. unwrap_or (placed Zero c.args.parent.now (numbers_at c.args.ind.now (length c.args.windows.now) q) first) 0) (range_with_len 0 c.args.corners) =
-    c.deref-in-loop-round.ensures.value ∙ c.in_ok-bases.ensures.places
-    ∙ ap (λ (n : ℕ). map (λ q. unwrap_or (placed Zero c.args.parent.now (numbers_at c.args.ind.now n q) first) 0) (range_with_len 0 c.args.corners)) (omega (arith, first_long)) in
-    subst (λ (n : ℕ). Any (λ b. b ≡ q) c.args.beyond.now ⊎ Some (get_or bases q 0 + unwrap_or (placed Zero c.args.parent.now zeros at) 0) ≡ placed c.args.edge c.args.parent.now (numbers_at c.args.ind.now n q) at) (sym zeros_long)
-    (round_each c.args.edge c.args.parent.now c.args.windows.now c.args.ind.now zeros first at bases c.args.beyond.now (length c.args.windows.now) c.args.corners _ start here c.requires.whole zeros_are
-    (c.deref.ensures.value ∙ c.in_ok-at.ensures.items_if_clones_equal (λ y e. e)) bases_are c.requires.within q (omega (arith, h, bases_long)))
+    subst (λ (n : ℕ). Any (λ b. b ≡ q) c.args.beyond.now ⊎ Some (get_or c.args.bases.now q 0 + unwrap_or (placed Zero c.args.parent.now zeros at) 0) ≡ placed c.args.edge c.args.parent.now (numbers_at c.args.ind.now n q) at) (sym zeros_long)
+    (round_each c.args.edge c.args.parent.now c.args.windows.now c.args.ind.now zeros at c.args.bases.now c.args.beyond.now (length c.args.windows.now) here
+    (c.requires.whole ∙ ap (λ n. length c.args.windows.now * n) (sym c.requires.long)) zeros_are c.requires.known q h)
 
 pub move_on-requires : goal.move_on-requires
 move_on-requires c =
     let progress = rounds_below c.args.count c.args.corners (size_of (inner_dims c.args.parent.now c.args.windows.now)) _ c.loop-round._round c.requires.counts c.rounds_of-round-end.ensures.none c.rounds_of-round-end.ensures.some c.loop-round-test.true in
     round_within c.shape_laws.ensures.positions c.args.parent.now c.args.windows.now _ _ c.loop-round._round c.requires.fit
-    (c.deref-in-loop-round-4.ensures.value ∙ rounds_are c.shape_laws.ensures.sizes c.args.parent.now c.args.windows.now _ c.requires.inner_bounded c.in_ok-sizes.ensures) progress.1 (c.deref_mut.ensures.value ∙ c.loop-round.invariant.at)
+    (c.deref-in-loop-round-2.ensures.value ∙ rounds_are c.shape_laws.ensures.sizes c.args.parent.now c.args.windows.now _ c.requires.inner_bounded c.in_ok-sizes.ensures) progress.1 (c.deref_mut.ensures.value ∙ c.loop-round.invariant.at)
 
 pub loop-round-preserved : goal.loop-round-preserved
 loop-round-preserved c =
     let progress = rounds_below c.args.count c.args.corners (size_of (inner_dims c.args.parent.now c.args.windows.now)) _ c.loop-round._round c.requires.counts c.rounds_of-round-end.ensures.none c.rounds_of-round-end.ensures.some c.loop-round-test.true in
-    let at : List ℕ = c.deref-in-loop-round-3.result.now in
-    let at_is : at ≡ coordinates_of (rounds c.args.parent.now c.args.windows.now) c.loop-round._round = c.deref-in-loop-round-3.ensures.value ∙ c.loop-round.invariant.at in
+    let at : List ℕ = c.deref-in-loop-round.result.now in
+    let at_is : at ≡ coordinates_of (rounds c.args.parent.now c.args.windows.now) c.loop-round._round = c.deref-in-loop-round.ensures.value ∙ c.loop-round.invariant.at in
     let long : length at ≡ length c.args.windows.now + 1 = at_long c.args.parent.now c.args.windows.now at c.loop-round._round at_is in
     let here : AtWindow c.args.parent.now c.args.windows.now at (length c.args.windows.now) = at_round c.shape_laws.ensures.positions c.args.parent.now c.args.windows.now at c.loop-round._round (length c.args.windows.now) c.requires.fit progress.1 at_is (omega (arith, long)) in
-    let zeros : List ℤ = c.deref-in-loop-round-2.result.now in
-    let zeros_are : zeros ≡ replicate (length c.args.windows.now) (pos 0) = c.deref-in-loop-round-2.ensures.value ∙ c.in_ok-zeros.ensures.items_if_clones_equal (λ y e. e) in
+    let zeros : List ℤ = c.deref.result.now in
+    let zeros_are : zeros ≡ replicate (length c.args.windows.now) (pos 0) = c.deref.ensures.value ∙ c.in_ok-zeros.ensures.items_if_clones_equal (λ y e. e) in
     let zeros_long : length zeros ≡ length c.args.windows.now = many_zeros zeros (length c.args.windows.now) zeros_are in
-    let bases : List ℕ = c.deref-in-loop-round.result.now in
-    let bases_long : length bases ≡ c.args.corners = ap length c.deref-in-loop-round.ensures.value ∙ ap length c.in_ok-bases.ensures.places ∙ length-map-range_with_len (λ q. unwrap_or (placed Zero c.args.parent.now (numbers_at c.args.ind.now (length c.deref.result.now - 1) q) c.deref.result.now) 0) 0 c.args.corners in
     let added : c.push_round.new.places.items ≡ c.loop-round.places.items ++ map (λ q. placed c.args.edge c.args.parent.now (numbers_at c.args.ind.now (length c.args.windows.now) q) at) (range_with_len 0 c.args.corners) =
     c.in_ok-push_round.ensures
-    ∙ ap (λ (n : ℕ). c.loop-round.places.items ++ map (λ q. placed c.args.edge c.args.parent.now (numbers_at c.args.ind.now n q) at) (range_with_len 0 (length bases))) zeros_long
-    ∙ ap (λ (n : ℕ). c.loop-round.places.items ++ map (λ q. placed c.args.edge c.args.parent.now (numbers_at c.args.ind.now (length c.args.windows.now) q) at) (range_with_len 0 n)) bases_long in
+    ∙ ap (λ (n : ℕ). c.loop-round.places.items ++ map (λ q. placed c.args.edge c.args.parent.now (numbers_at c.args.ind.now n q) at) (range_with_len 0 (length c.args.bases.now))) zeros_long
+    ∙ ap (λ (n : ℕ). c.loop-round.places.items ++ map (λ q. placed c.args.edge c.args.parent.now (numbers_at c.args.ind.now (length c.args.windows.now) q) at) (range_with_len 0 n)) c.requires.long in
     record {
       at = with_items_is c.loop-round.at c.move_on.new.coordinates (c.move_on.auto.coordinates ∙ c.deref_mut.ensures.len)
-          ∙ round_moved c.shape_laws.ensures.positions c.args.parent.now c.args.windows.now c.deref-in-loop-round-4.result.now c.deref_mut.result.now c.move_on.new.coordinates c.loop-round._round c.requires.fit
-          (c.deref-in-loop-round-4.ensures.value ∙ rounds_are c.shape_laws.ensures.sizes c.args.parent.now c.args.windows.now _ c.requires.inner_bounded c.in_ok-sizes.ensures) progress.1 (c.deref_mut.ensures.value ∙ c.loop-round.invariant.at) c.move_on.ensures;
+          ∙ round_moved c.shape_laws.ensures.positions c.args.parent.now c.args.windows.now c.deref-in-loop-round-2.result.now c.deref_mut.result.now c.move_on.new.coordinates c.loop-round._round c.requires.fit
+          (c.deref-in-loop-round-2.ensures.value ∙ rounds_are c.shape_laws.ensures.sizes c.args.parent.now c.args.windows.now _ c.requires.inner_bounded c.in_ok-sizes.ensures) progress.1 (c.deref_mut.ensures.value ∙ c.loop-round.invariant.at) c.move_on.ensures;
       places = rounds_grow (λ p. window_position c.args.edge c.args.parent.now c.args.windows.now (numbers_at c.args.ind.now (length c.args.windows.now) (p % c.args.corners)) (p / c.args.corners))
           (λ q. placed c.args.edge c.args.parent.now (numbers_at c.args.ind.now (length c.args.windows.now) q) at)
           c.loop-round.places.items c.push_round.new.places.items c.args.corners c.loop-round._round None c.loop-round.invariant.places added

@@ -3,14 +3,14 @@ use Rattle.std.proofs.Common.{◌≡◌, ◌⊎◌, inl, inr, ◌+◌, ◌-◌, 
 use Rattle.std.specs.List.{Any, range_with_len}
 use Rattle.std.proofs.lemmas.List.{append-nil, drop_all, drop_at, get_or-map, length-map, take_all, take_at, with_items_is}
 use Rattle.std.proofs.lemmas.List.FromFn.{fill_by_all}
-use Rattle.pdl_shape.specs.Shape.{extent, size_of}
+use Rattle.pdl_shape.specs.Shape.{extent_limit}
 use Rattle.pdl_choice.specs.Rounds.{numbers_at, placed}
 use Rattle.pdl_choice.proofs.windows.push_round.Goals as goal
 use borrow.Rule.Slice.PartMut.{post_of}
 
 -- a sum of two places within the limits
-small_sum : (base past size limit : ℕ) → base ≤ size → past ≤ size → size ≤ limit → limit ≤ 1048576 → base + past < 4294967296
-small_sum base past size limit b p s l = omega arith
+small_sum : (base past limit : ℕ) → base ≤ limit → past ≤ limit → limit ≤ 1048576 → base + past < 4294967296
+small_sum base past limit b p l = omega arith
 
 -- places that are sums, or were set
 all_placed_right : (place : ℕ → Option ℕ) (new part : List (Option ℕ)) (bases beyond : List ℕ) (past : ℕ) → part ≡ map (λ (b : ℕ). Some (b + past)) bases → length new ≡ length part
@@ -46,7 +46,8 @@ last_are old pl sums from is at =
 
 pub push_past-requires : goal.push_past-requires
 push_past-requires c k d h =
-    small_sum (get_or c.args.bases.now k d) c.past_first.result (size_of c.args.parent.now) (extent c.args.parent.now) (c.requires.small k d h) c.past_first.ensures.bound (c.shape_laws.ensures.sizes.size_within c.args.parent.now) (omega (arith, c.requires.bounded))
+    small_sum (get_or c.args.bases.now k d) c.past_first.result extent_limit (c.requires.small k d h)
+    (omega (arith, c.past_first.ensures.bound, c.shape_laws.ensures.sizes.size_within c.args.parent.now, c.requires.bounded)) (omega arith)
 
 pub returns : goal.returns
 returns c =

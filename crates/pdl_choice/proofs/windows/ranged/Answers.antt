@@ -1,12 +1,34 @@
-use Rattle.std.proofs.Common.{◌≡◌, ◌∙◌, ◌++◌, ◌*◌, ap, sym, List, ℕ, length, drop, arith, Some, None}
+use Rattle.std.proofs.Common.{◌≡◌, ◌∙◌, ◌++◌, ◌*◌, ap, sym, List, ℕ, ℤ, [], length, drop, arith, IfSome, IsSome, Option, Some, None}
+use Rattle.std.specs.Prelude.{vec_len}
 use Rattle.pdl_shape.specs.Shape.{size_of}
 use Rattle.pdl_shape.specs.Limits.{checked_dims}
 use Rattle.pdl_shape.specs.Places.{places_of}
-use Rattle.pdl_choice.specs.Range.{first_refused, corner_len, inner_dims, windowed_dims, window_sizes, window_refusal, range_source}
+use Rattle.pdl_choice.specs.declared.corners.Corners.{Corners}
+use Rattle.pdl_choice.specs.declared.edges.Edge.TheVariants.{Refuse}
+use Rattle.pdl_choice.specs.Rounds.{AreKnown, window_starts}
+use Rattle.pdl_choice.specs.Range.{AllAllowed, first_refused, corner_len, inner_dims, windowed_dims, window_sizes, window_refusal, range_source}
+use Rattle.pdl_choice.proofs.InsidePlaces.{known_allowed}
 use Rattle.pdl_choice.proofs.RangeCorners.{window_places_are, corner_size}
 use Rattle.pdl_choice.proofs.ShapePositions.{size_of-append}
 use Rattle.pdl_choice.proofs.RangeDims.{range_dims-fit, checked_dims-back, checked_dims-ok, nowhere_said, refused_as_well}
 use Rattle.pdl_choice.proofs.windows.ranged.Goals as goal
+
+-- where none is known to reach beyond, no edge refuses a window
+inside_allowed : (o : Option Corners) (parent windows : List ℕ) (ind : List ℤ) (corners : ℕ) → length ind ≡ length windows * corners → IfSome o (λ k. vec_len k.bases ≡ corners) → IfSome o (λ k. AreKnown parent (window_starts parent windows) ind k.bases.items k.beyond.items)
+    → IsSome o → IfSome o (λ k. k.beyond.items ≡ []) → AllAllowed Refuse parent windows ind
+inside_allowed None parent windows ind corners whole long known some none = absurd (cc)
+inside_allowed (Some k) parent windows ind corners whole long known some none =
+    let bases : corners ≡ length k.bases.items = omega (arith, k.bases.ok, long) in
+    known_allowed parent windows ind k.bases.items k.beyond.items (whole ∙ ap (λ (n : ℕ). length windows * n) bases) known none
+
+pub first_refusal-requires-clause-inside : goal.first_refusal-requires-clause-inside
+first_refusal-requires-clause-inside c inside =
+    let windows : List ℕ = c.as_slice-windows.result.now in
+    let len : length windows ≡ corner_len c.args.ind_dims.now = c.as_slice-windows.ensures.len ∙ c.in-Ok.ensures.len ∙ c.corner_dims-count.ensures.count in
+    let corners : c.count_of-corners.result ≡ size_of (drop 1 c.args.ind_dims.now) = c.count_of-corners.ensures ∙ ap size_of c.corner_dims-count.ensures.outer in
+    inside_allowed c.in_ok-known.known c.args.parent.now windows c.args.ind.now c.count_of-corners.result
+    (c.requires.whole ∙ corner_size c.args.ind_dims.now ∙ ap (λ (n : ℕ). n * size_of (drop 1 c.args.ind_dims.now)) (sym len) ∙ ap (λ (n : ℕ). length windows * n) (sym corners))
+    c.in_ok-known.ensures.long c.in_ok-known.ensures.known (c.are_inside-inside.ensures.some inside) (c.are_inside-inside.ensures.none_beyond inside)
 
 pub overflow_cast-result : goal.overflow_cast-result
 overflow_cast-result c =

@@ -4,21 +4,20 @@ use Rattle.std.proofs.lemmas.List.{length-take-le, take-append-le}
 use Rattle.pdl_numbers.specs.Typed.{TypedElements}
 use Rattle.pdl_elem.specs.declared.Ty.{Ty}
 use Rattle.pdl_elem.specs.Types.{InRange}
-use Rattle.pdl_shape.specs.Shape.{size_of}
 use Rattle.pdl_ops.proofs.ElementwiseParts.{found_all, found_first, found_more, found_part}
 use Rattle.pdl_ops.proofs.values.values_within.Goals as goal
 
 pub loop-done-init : goal.loop-done-init
 loop-done-init c = record {
   inside = omega arith;
-  room = omega (arith, c.requires.room, c.elements_of-count.ensures.count, ap size_of c.strided_dims.ensures.dims);
+  room = c.requires.room;
   ty = ap (λ (p : TypedElements). p.ty) c.requires.empty;
   made = found_first c.args.sign c.args.old.now.ty c.args.new.now.ty c.args.old.now.elems c.args.new.now.elems c.args.made.elems (ap (λ (p : TypedElements). p.elems) c.requires.empty);
 }
 
 pub part_within-requires : goal.part_within-requires
 part_within-requires c =
-    let left : c.loop-done.done + c.min-size.result ≤ length c.args.new.now.elems = omega (arith, c.min-size.ensures, c.loop-done-test.true, c.elements_of-count.ensures.count, c.strided_dims.ensures.count, ap size_of c.strided_dims.ensures.dims) in
+    let left : c.loop-done.done + c.min-size.result ≤ length c.args.new.now.elems = omega (arith, c.min-size.ensures, c.loop-done-test.true, c.requires.count) in
     record {
       room = length-take-le (3 * c.min-size.result) c.loop-done.room (omega (arith, c.min-size.ensures, c.loop-done.invariant.room));
       old_within = omega (arith, left, c.requires.paired);
@@ -52,7 +51,7 @@ loop-done-preserved c =
 pub returns-clause-value : goal.returns-clause-value
 returns-clause-value c =
     found_all c.value_laws.ensures.as_many c.args.sign c.args.old.now.ty c.args.new.now.ty c.args.old.now.elems c.args.new.now.elems c.loop-done.done c.loop-done.made.elems c.requires.paired
-    (omega (arith, c.loop-done-test.false, c.elements_of-count.ensures.count, c.strided_dims.ensures.count, ap size_of c.strided_dims.ensures.dims)) c.requires.never c.loop-done.invariant.made
+    (omega (arith, c.loop-done-test.false, c.requires.count)) c.requires.never c.loop-done.invariant.made
 
 pub returns-clause-in_range : goal.returns-clause-in_range
 returns-clause-in_range c = c.loop-done.invariant.made.in_range

@@ -6,7 +6,6 @@ use Rattle.pdl_reduce.proofs.columns.add_lists.Given as goal
 
 abbrev pub invariant-loop-done : goal.invariant-loop-done
 invariant-loop-done g l = record {
-  room : length l.row ≡ length l.so_far;
   kept : length l.so_far ≡ length l.initial.so_far;
   inside : l.done ≤ l.count;
   ty : l.made.ty ≡ l.initial.made.ty;

@@ -5,7 +5,6 @@ use Rattle.pdl_reduce.proofs.columns.fold_lists.Given as goal
 
 abbrev pub invariant-loop-i : goal.invariant-loop-i
 invariant-loop-i g l = record {
-  room : length l.row ≡ length l.so_far;
   kept : length l.so_far ≡ length l.initial.so_far;
   taken : (j : ℕ) → j < length l.initial.so_far → get_or l.so_far j (pos 0) ≡ fold g.F.Folding.taken l.start (take l.i (nth_list l.size l.a.elems (l.first + j)));
 }

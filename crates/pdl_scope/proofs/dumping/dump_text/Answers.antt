@@ -15,7 +15,7 @@ returns-in_err-write-clause-text g c =
     let w = c.args.engine.now.world in
     let ns = c.args.names.now.entries in
     answers_fault {T = Vec ℕ Global} (λ text. text.items) (text_within (lines_of ks w ns)) c.in_err-write.field-0.0 c.from_residual-in_err-write.result
-    (kernels_refused c.dump_laws.ensures.join ks w ns c.new-image.result c.write.new.image c.in_err-write.field-0.0 c.requires
+    (kernels_refused c.lines_law.ensures ks w ns c.new-image.result c.write.new.image c.in_err-write.field-0.0 c.requires
     (begun c.new-image.result c.in_ok-stem.stem (stem_for ns) c.new-image.ensures c.in_ok-stem.ensures) c.in_err-write.ensures)
     c.from_residual-in_err-write.ensures.1
 
@@ -25,7 +25,7 @@ returns-in_err-write_arrays-clause-text g c =
     let w = c.args.engine.now.world in
     let ns = c.args.names.now.entries in
     answers_fault {T = Vec ℕ Global} (λ text. text.items) (text_within (lines_of ks w ns)) c.in_err-write_arrays.field-0.0 c.from_residual-in_err-write_arrays.result
-    (arrays_refused c.dump_laws.ensures.join ks w ns c.new-image.result c.write.new.image c.write_arrays.new.image c.in_ok-write.field-0 c.in_err-write_arrays.field-0.0 c.requires
+    (arrays_refused c.lines_law.ensures ks w ns c.new-image.result c.write.new.image c.write_arrays.new.image c.in_ok-write.field-0 c.in_err-write_arrays.field-0.0 c.requires
     (begun c.new-image.result c.in_ok-stem.stem (stem_for ns) c.new-image.ensures c.in_ok-stem.ensures) c.in_ok-write.ensures c.in_err-write_arrays.ensures.lines)
     c.from_residual-in_err-write_arrays.ensures.1
 
@@ -38,7 +38,7 @@ returns-in_err-write_names-clause-text g c =
     let new = c.write_names.new.image in
     let e = c.in_err-write_names.field-0.0 in
     answers_fault {T = Vec ℕ Global} (λ text. text.items) (text_within (lines_of ks w ns)) e c.from_residual-in_err-write_names.result
-    (names_refused c.dump_laws.ensures.join ks w ns c.new-image.result c.write.new.image m new c.in_ok-write.field-0 c.in_ok-write_arrays.field-0 e c.requires
+    (names_refused c.lines_law.ensures ks w ns c.new-image.result c.write.new.image m new c.in_ok-write.field-0 c.in_ok-write_arrays.field-0 e c.requires
     (begun c.new-image.result c.in_ok-stem.stem (stem_for ns) c.new-image.ensures c.in_ok-stem.ensures) c.in_ok-write.ensures c.in_ok-write_arrays.ensures.lines
     (subst (λ (ids : List ℕ). WritesLines m new 0 (name_lines m.stem ids ns) (Err e)) (c.deref-2.ensures.value ∙ c.in_ok-ids.ensures) c.in_err-write_names.ensures))
     c.from_residual-in_err-write_names.ensures.1
@@ -53,7 +53,7 @@ returns-in_err-end-clause-text g c =
     let x = c.in_ok-write_names.field-0 in
     let why = c.in_err-end.field-0.0 in
     answers_fault {T = Vec ℕ Global} (λ text. text.items) (text_within (lines_of ks w ns)) (of_image why) c.from_residual-in_err-end.result
-    (ends_refused c.dump_laws.ensures.join ks w ns c.new-image.result c.write.new.image m new c.in_ok-write.field-0 c.in_ok-write_arrays.field-0 x why (of_image why) c.requires
+    (ends_refused c.lines_law.ensures ks w ns c.new-image.result c.write.new.image m new c.in_ok-write.field-0 c.in_ok-write_arrays.field-0 x why (of_image why) c.requires
     (begun c.new-image.result c.in_ok-stem.stem (stem_for ns) c.new-image.ensures c.in_ok-stem.ensures) c.in_ok-write.ensures c.in_ok-write_arrays.ensures.lines
     (subst (λ (ids : List ℕ). WritesLines m new 0 (name_lines m.stem ids ns) (Ok x)) (c.deref-2.ensures.value ∙ c.in_ok-ids.ensures) c.in_ok-write_names.ensures)
     c.in_err-end.ensures.refused refl)
@@ -67,7 +67,7 @@ returns-clause-text g c =
     let m = c.write_arrays.new.image in
     let new = c.write_names.new.image in
     let x = c.in_ok-write_names.field-0 in
-    dump_written c.dump_laws.ensures.join ks w ns c.new-image.result c.write.new.image m new c.in_ok-write.field-0 c.in_ok-write_arrays.field-0 x c.in_ok-end.field-0.items c.requires
+    dump_written c.lines_law.ensures ks w ns c.new-image.result c.write.new.image m new c.in_ok-write.field-0 c.in_ok-write_arrays.field-0 x c.in_ok-end.field-0.items c.requires
     (begun c.new-image.result c.in_ok-stem.stem (stem_for ns) c.new-image.ensures c.in_ok-stem.ensures) c.in_ok-write.ensures c.in_ok-write_arrays.ensures.lines
     (subst (λ (ids : List ℕ). WritesLines m new 0 (name_lines m.stem ids ns) (Ok x)) (c.deref-2.ensures.value ∙ c.in_ok-ids.ensures) c.in_ok-write_names.ensures)
     c.in_ok-end.ensures.ok c.in_ok-end.ensures.fits

@@ -29,7 +29,7 @@ release_all-requires g c =
     let H : List ℕ → Type 0 = λ ks. AreHeld c.args.engine.now (c.requires.held.staying ++ all_read (without_at at fs)) ks in
     record {
       staying = c.requires.held.staying ++ all_read (without_at at fs);
-      held = subst H (sym c.reads.ensures) (held_out c.keeping_laws.ensures.more c.args.engine.now c.requires.held.staying fs at f (read_at fs at f c.requires.within c.remove-flow.ensures.value) c.requires.held.held);
+      held = subst H (sym c.reads.ensures) (held_out c.more_held_law.ensures c.args.engine.now c.requires.held.staying fs at f (read_at fs at f c.requires.within c.remove-flow.ensures.value) c.requires.held.held);
     }
 
 pub returns-clause-flows : goal.returns-clause-flows
@@ -49,4 +49,4 @@ returns-clause-lets_go g c = λ staying held.
     let H : List ℕ → Type 0 = λ ks. AreHeld c.args.engine.now (staying ++ all_read (without_at at fs)) ks in
     let L : Flows → Type 0 = λ hs. LetsGo (staying ++ all_read hs) c.args.engine.now c.release_all.new.engine [] in
     subst L (sym c.remove-flow.ensures.by_index.2)
-    (c.release_all.ensures.lets_go (staying ++ all_read (without_at at fs)) (subst H (sym c.reads.ensures) (held_out c.keeping_laws.ensures.more c.args.engine.now staying fs at f (read_at fs at f c.requires.within c.remove-flow.ensures.value) held)))
+    (c.release_all.ensures.lets_go (staying ++ all_read (without_at at fs)) (subst H (sym c.reads.ensures) (held_out c.more_held_law.ensures c.args.engine.now staying fs at f (read_at fs at f c.requires.within c.remove-flow.ensures.value) held)))

@@ -19,19 +19,19 @@ loop-id-preserved g c =
     let t = c.loop-id.engine in
     let n = c.release.new.self in
     let sound = (c.loop-id.invariant.lets_go c.requires.staying c.requires.held).is_held.sound in
-    let laws : bounds.Laws = record { kept = c.sweep_laws.ensures.kept; reached = c.sweep_laws.ensures.seen; unwritten = c.hold_laws.ensures.unwritten } in
+    let laws : bounds.Laws = record { kept = c.releasing_laws.ensures.kept; reached = c.releasing_laws.ensures.seen; unwritten = c.releasing_laws.ensures.unwritten } in
     record {
       lets_go = λ staying held.
           lets_go_more (record {
-            more = c.keeping_laws.ensures.more;
-            reached = c.sweep_laws.ensures.seen;
-            numbered = c.sweep_laws.ensures.numbers;
-            again = c.numbering_laws.ensures.again;
-            less = c.hold_laws.ensures.less;
-            staying = c.hold_laws.ensures.staying;
-            held = c.hold_laws.ensures.held;
-            counted = c.hold_laws.ensures.counted;
-            others = c.hold_laws.ensures.others;
+            more = c.releasing_laws.ensures.more;
+            reached = c.releasing_laws.ensures.seen;
+            numbered = c.releasing_laws.ensures.numbers;
+            again = c.releasing_laws.ensures.again;
+            less = c.releasing_laws.ensures.less;
+            staying = c.releasing_laws.ensures.staying;
+            held = c.releasing_laws.ensures.held;
+            counted = c.releasing_laws.ensures.counted;
+            others = c.releasing_laws.ensures.others;
           }) staying e t n c.args.leaving.now c.loop-id.id-index c.loop-id-test.true c.holds_law.ensures.each c.holds_law.ensures.once
           (c.loop-id.invariant.lets_go staying held) c.release.ensures.released c.release.ensures.sound;
       goes_on = λ first start first_sound h.

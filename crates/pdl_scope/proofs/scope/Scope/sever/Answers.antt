@@ -48,7 +48,7 @@ invariant_of-self-2 g c =
     let cut = c.cut_apart.ensures.held names ws fs (subst P (sym c.in_ok-reserve.ensures.items) c.self.invariant) in
     let F : Flows → Type 0 = λ gs. IsHeld (state_in names ws gs t) t.holds c.end_flow.new.leaving.items in
     let L : List ℕ → Type 0 = λ vs. IsHeld (state_in names ws (without_flow fs c.args.id) t) t.holds vs in
-    subst F (sym c.end_flow.ensures.flows) (subst L (sym c.end_flow.ensures.leaving) (held_ended c.keeping_laws.ensures.more names ws fs t c.args.id left cut))
+    subst F (sym c.end_flow.ensures.flows) (subst L (sym c.end_flow.ensures.leaving) (held_ended c.more_held_law.ensures names ws fs t c.args.id left cut))
 
 pub returns-clause-runs : goal.returns-clause-runs
 returns-clause-runs g c =

@@ -20,7 +20,7 @@ invariant_of-self-in-Some c =
     let after = c.remove.new.self.entries in
     let O : Option ℕ → Type 0 = λ o. IsHeld (state_in (names_in (without_name names x) ks) ws fs e) e.holds (leaving ++ option_to_list o) in
     held_same (without_name names x) after ks ws fs e (leaving ++ had ∷ []) c.note.new.list.items c.remove.ensures.names (c.note.ensures.items ∙ ap (λ (vs : List ℕ). vs ++ had ∷ []) c.in_ok-reserve.ensures.items)
-    (subst O (sym c.remove.ensures.given_up ∙ c.in-Some.is) (held_unbound c.keeping_laws.ensures.more names ks ws fs e x leaving c.self.invariant))
+    (subst O (sym c.remove.ensures.given_up ∙ c.in-Some.is) (held_unbound c.more_held_law.ensures names ks ws fs e x leaving c.self.invariant))
 
 pub returns-in-Some : goal.returns-in-Some
 returns-in-Some c =

@@ -19,4 +19,4 @@ invariant_of-self-2 c =
     let W : Watches → Type 0 = λ us. IsHeld (state_in names us fs e) e.holds c.note_some.new.list.items in
     let L : List ℕ → Type 0 = λ vs. IsHeld (state_in names (detach ws k) fs e) e.holds vs in
     let left = c.note_some.ensures.items ∙ ap (λ (vs : List ℕ). vs ++ option_to_list c.detach-had.result) c.in_ok-reserve.ensures.items ∙ ap (λ o. leaving ++ option_to_list o) c.detach-had.ensures.given_up in
-    subst W (sym c.detach-had.ensures.watches) (subst L (sym left) (held_detached c.watching_laws.ensures.trimmed c.keeping_laws.ensures.more names ws fs e k leaving c.self.invariant within))
+    subst W (sym c.detach-had.ensures.watches) (subst L (sym left) (held_detached c.detaching_laws.ensures.trimmed c.detaching_laws.ensures.more names ws fs e k leaving c.self.invariant within))
