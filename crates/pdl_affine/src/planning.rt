@@ -11,7 +11,7 @@ ghost use Rattle.pdl_shape.specs.Refusals.{Refuses};
 use crate::composing::window;
 use crate::forms::Form;
 use crate::resolving::resolve;
-use crate::sizing::{limited, sizes_of};
+use crate::sizing::{limited, sizes_of, slice};
 use crate::{Affine, Numbers, PlanFault};
 use pdl_shape::{Dims, Triple, copy_dims, dims_list};
 use pdl_slices::SliceArgs;
@@ -110,6 +110,11 @@ fn sized(alloc: Global, form: &Form, parent: &[u32]) -> Result<Dims, PlanFault>
     requires limits { IsDims parent.now }
     ensures { Limits (checked_dims (sizes (seen_form form.now) parent.now)) result }
 {
+    // most views are slices: their sizes take no memory of their own
+    if let Form::Sliced(taken) = form {
+        let sizes = slice(alloc, taken)?;
+        return limited(alloc, sizes.as_slice());
+    }
     let sizes = sizes_of(alloc, form, parent)?;
     limited(alloc, &sizes)
 }

@@ -11,22 +11,24 @@ use crate::forms::{Form, Taken};
 use crate::putting::put;
 use crate::resolving::{lists, size_at};
 use pdl_shape::{Dims, MOST_DIMS, MOST_EXTENT, ShapeFault, dims_of, size};
+use smallvec::SmallVec;
 use std::alloc::{AllocError, Global};
 
-fn put_line(sizes: &mut Vec<u32>, taken: Taken) -> Result<(), AllocError>
+fn put_line(sizes: &mut SmallVec<u32, MOST_DIMS>, taken: Taken) -> Result<(), AllocError>
     ensures { OnOk result (sizes.new.items ≡ sizes.old.items
         ++ line_sizes (lines_of_taken (taken ∷ []))) }
 {
     match taken {
-        Taken::Kept { size, .. } | Taken::Added { size } => put(sizes, size),
+        Taken::Kept { size, .. } | Taken::Added { size } => Ok(sizes.push(size)?),
         Taken::Lost { .. } => Ok(()),
     }
 }
 
-fn slice(alloc: Global, taken: &[Taken]) -> Result<Vec<u32>, AllocError>
+/// The sizes that are taken, in place where they are as few as an array's may be.
+pub fn slice(alloc: Global, taken: &[Taken]) -> Result<SmallVec<u32, MOST_DIMS>, AllocError>
     ensures { IfOk result (λ ms. ms.items ≡ line_sizes (lines_of_taken taken.now)) }
 {
-    let mut sizes = Vec::new(alloc);
+    let mut sizes = SmallVec::new(alloc);
     for line in taken {
         put_line(&mut sizes, *line)?;
     }
@@ -144,11 +146,12 @@ fn clump(alloc: Global, count: usize, parent: &[u32]) -> Result<Vec<u32>, AllocE
     Ok(sizes)
 }
 
-/// The sizes, and sizes of 1 up to a place.
+/// The sizes, and sizes of 1 up to a place, with room for one more.
 fn filled(alloc: Global, place: usize, parent: &[u32]) -> Result<Vec<u32>, AllocError>
     ensures { IfOk result (λ ms. ms.items ≡ parent.now ++ replicate (place - length parent.now) 1) }
 {
-    let mut sizes = Vec::from_slice(alloc, parent)?;
+    let mut sizes = Vec::with_capacity(alloc, place.max(parent.len()).saturating_add(1))?;
+    sizes.extend_from_slice(parent)?;
     let ones = vec![in alloc; 1; place.saturating_sub(parent.len())]?;
     sizes.extend_from_slice(&ones)?;
     Ok(sizes)
@@ -186,7 +189,7 @@ pub fn sizes_of(alloc: Global, form: &Form, parent: &[u32]) -> Result<Vec<u32>, 
     ensures err { IfErr result (IsLimit (seen_form form.now) parent.now) }
 {
     match form {
-        Form::Sliced(taken) => Ok(slice(alloc, taken)?),
+        Form::Sliced(taken) => Ok(Vec::from_slice(alloc, slice(alloc, taken)?.as_slice())?),
         Form::Exchanged(a, b) => Ok(exchange(alloc, *a, *b, parent)?),
         Form::Shifted(a, b) => Ok(shift(alloc, *a, *b, parent)?),
         Form::Arranged(order) => Ok(arrange(alloc, order, parent)?),

@@ -29,7 +29,10 @@ pub use moves::{
 pub use packing::Packing;
 pub use pdl_numbers::Run;
 pub use ranges::strided_is_in_range;
-pub use reading::{strided_is_turned, strided_read, strided_run, strided_sum, strided_take_across};
+pub use reading::{
+    strided_fold_across, strided_is_turned, strided_read, strided_run, strided_sum,
+    strided_take_across,
+};
 pub use std::alloc::AllocError as NoMemory;
 pub use steps::{Steps, new_steps, tick};
 pub use stretching::stretched;

@@ -3,11 +3,13 @@ ghost use Rattle.std.specs.Prelude.{◌≡◌, ◌<◌, ◌≤◌, ◌+◌, ◌+
 ghost use Rattle.std.specs.Int.{int_wrap, w64};
 ghost use Rattle.pdl_elem.specs.Types.{InRange};
 ghost use Rattle.pdl_shape.specs.Shape.{extent_limit};
+ghost use Rattle.pdl_numbers.specs.Folds.{HasFolded};
+ghost use Rattle.pdl_numbers.specs.Numbers.{elements_in};
 ghost use Rattle.pdl_numbers.specs.Reads.{LieAcross, across};
 
 use crate::ranges::strided_is_in_range;
 use crate::window::{Strided, strided_dims};
-use pdl_numbers::{Folding, Run, shown_laws};
+use pdl_numbers::{Folding, Numbers, Run, shown_laws};
 use pdl_shape::{dims_list, incs_list};
 
 /// Shorter columns than this are read as well one by one.
@@ -56,6 +58,34 @@ pub fn strided_take_across<F: Folding>(from: &Strided<'_>, first: u32, so_far: &
     shown_laws();
     let buf = from.buf;
     buf.numbers.take_across::<F>(&from.placement, first, so_far)
+}
+
+/// Takes one of the window's elements along dimension 1 into each of so many packed numbers of its
+/// type from a start on: those elements that `strided_take_across` takes. What comes of each is
+/// wrapped to the type.
+pub fn strided_fold_across<F: Folding>(
+    from: &Strided<'_>,
+    first: u32,
+    start: usize,
+    count: usize,
+    into: &mut Numbers,
+)
+    requires typed { (elements_in into.old).ty ≡ from.now.ty }
+    requires room { start + count ≤ length (elements_in into.old).elems }
+    requires some { first < length from.now.elems }
+    requires small { count ≤ extent_limit }
+    requires along { LieAcross from.now.dims first count }
+    requires within { (k : ℕ) → k < count →
+        across from.now.dims first k < length from.now.elems }
+    ensures typed { (elements_in into.new).ty ≡ (elements_in into.old).ty }
+    ensures value { let old = elements_in into.old in
+        HasFolded old.ty F.taken
+        (λ k. get_or from.now.elems (across from.now.dims first k) (pos 0)) start count
+        old.elems (elements_in into.new).elems }
+{
+    shown_laws();
+    let buf = from.buf;
+    into.fold_across::<F>(start, count, &buf.numbers, &from.placement, first);
 }
 
 /// Whether elements along dimension 1 lie closer together in the buffer than along dimension 0, so

@@ -16,7 +16,7 @@ use Rattle.pdl_choice.specs.declared.edges.Edge.{Edge}
 use Rattle.pdl_choice.specs.declared.edges.Edge.TheVariants.{Refuse, Zero}
 use Rattle.pdl_choice.specs.Edges.{edge_coordinate, edge_refuses, is_within, start_count}
 use Rattle.pdl_choice.specs.Range.{AllAllowed, inner_dims, window_source}
-use Rattle.pdl_choice.specs.Rounds.{AreKnown, StandsAt, numbers_at, place_first, placed, window_place, window_starts}
+use Rattle.pdl_choice.specs.Rounds.{AreCorners, StandsAt, numbers_at, place_first, placed, window_place, window_starts}
 use Rattle.pdl_choice.proofs.EdgeLemmas.{inside_edge}
 use Rattle.pdl_choice.proofs.IndexInside.{all_inside}
 use Rattle.pdl_choice.proofs.RangePlaces.{length-corner}
@@ -166,7 +166,7 @@ corner_past edge parent windows corner zeros at len base a stands paired o =
 
 -- so each window reaches beyond, or has its place from its corner's
 pub round_each : (edge : Edge) (parent windows : List ℕ) (ind zeros : List ℤ) (at bases beyond : List ℕ) (len : ℕ) → AtWindow parent windows at len
-    → length ind ≡ length windows * length bases → zeros ≡ replicate (length windows) (pos 0) → AreKnown parent (window_starts parent windows) ind bases beyond
+    → length ind ≡ length windows * length bases → zeros ≡ replicate (length windows) (pos 0) → AreCorners parent (window_starts parent windows) ind bases beyond
     → (q : ℕ) → q < length bases → Any (λ b. b ≡ q) beyond ⊎ Some (get_or bases q 0 + unwrap_or (placed Zero parent zeros at) 0) ≡ placed edge parent (numbers_at ind (length windows) q) at
 round_each edge parent windows ind zeros at bases beyond len a whole o known q h =
     elim (known.each q h) [
@@ -177,7 +177,7 @@ round_each edge parent windows ind zeros at bases beyond len a whole o known q h
     ]
 
 -- where none is listed, no edge refuses a window
-pub known_allowed : (parent windows : List ℕ) (ind : List ℤ) (bases beyond : List ℕ) → length ind ≡ length windows * length bases → AreKnown parent (window_starts parent windows) ind bases beyond → beyond ≡ []
+pub known_allowed : (parent windows : List ℕ) (ind : List ℤ) (bases beyond : List ℕ) → length ind ≡ length windows * length bases → AreCorners parent (window_starts parent windows) ind bases beyond → beyond ≡ []
     → AllAllowed Refuse parent windows ind
 known_allowed parent windows ind bases beyond whole known none k h =
     let len : ℕ = length windows in

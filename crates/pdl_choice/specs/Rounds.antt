@@ -79,7 +79,7 @@ pub record StandsAt (parent starts : List ℕ) (corner : List ℤ) (place : ℕ)
   pub is : placed Zero parent corner (replicate (length corner + 1) 0) ≡ Some place
 
 -- each corner is listed as one that reaches beyond, or stands at its base
-pub record AreKnown (parent starts : List ℕ) (ind : List ℤ) (bases beyond : List ℕ) : Type 0 where
+pub record AreCorners (parent starts : List ℕ) (ind : List ℤ) (bases beyond : List ℕ) : Type 0 where
   pub small : All (λ base. base ≤ extent_limit) bases
   pub numbers : All (λ q. q < length bases) beyond
   pub each : (q : ℕ) → q < length bases → Any (λ b. b ≡ q) beyond

@@ -2,7 +2,7 @@
 ghost use Rattle.std.specs.Prelude.{◌≡◌, ◌<◌, ◌≤◌, ◌*◌, ◌+◌, ℕ, [], IsTrue, IsSome, length, take, drop, All, IfOk, IfSome, slice_index, vec_len};
 ghost use Rattle.pdl_shape.specs.Shape.{extent, extent_limit};
 ghost use Rattle.pdl_choice.specs.Edges.{start_count};
-ghost use Rattle.pdl_choice.specs.Rounds.{AreKnown, StandsAt, window_starts};
+ghost use Rattle.pdl_choice.specs.Rounds.{AreCorners, StandsAt, window_starts};
 
 use crate::reach::coordinate;
 use crate::{Edge, NoMemory};
@@ -92,7 +92,7 @@ fn place_numbers(
     requires long { length bases.old ≡ corners }
     requires small { All (λ base. base ≤ extent_limit) bases.old }
     ensures { IfOk result (λ few. IfSome few (λ beyond.
-        AreKnown parent.now starts.now ind.now bases.new beyond.items)) }
+        AreCorners parent.now starts.now ind.now bases.new beyond.items)) }
 {
     let most = corners as usize / 4;
     let mut beyond = Vec::new(alloc);
@@ -126,7 +126,7 @@ fn place_corners(
     requires long { length bases.old ≡ corners }
     requires small { All (λ base. base ≤ extent_limit) bases.old }
     ensures { IfOk result (λ few. IfSome few (λ beyond.
-        AreKnown parent.now starts.now ind.now bases.new beyond.items)) }
+        AreCorners parent.now starts.now ind.now bases.new beyond.items)) }
 {
     match starts.len() {
         1 => place_numbers(alloc, parent, starts, ind, 1, corners, bases),
@@ -144,8 +144,8 @@ fn least_corners(windows: &[u64]) -> u32 {
     }
 }
 
-/// What is known of the corners, unless these are few or more than a quarter of the windows reach
-/// beyond the parent.
+/// What is known of the corners, unless these are few or have no numbers, or more than a quarter of
+/// the windows reach beyond the parent.
 pub(crate) fn known_corners(
     alloc: Global,
     parent: &[u32],
@@ -159,9 +159,9 @@ pub(crate) fn known_corners(
     ensures long { IfOk result (λ some. IfSome some (λ known. vec_len known.bases ≡ corners)) }
     ensures known { let starts = window_starts parent.now windows.now in
         IfOk result (λ some. IfSome some (λ known.
-        AreKnown parent.now starts ind.now known.bases.items known.beyond.items)) }
+        AreCorners parent.now starts ind.now known.bases.items known.beyond.items)) }
 {
-    if corners < least_corners(windows) {
+    if windows.is_empty() || corners < least_corners(windows) {
         return Ok(None);
     }
     let starts = starts_of(alloc, parent, windows)?;

@@ -10,7 +10,7 @@ ghost use Rattle.pdl_shape.specs.Refusals.{Refuses};
 ghost use Rattle.pdl_choice.specs.Choice.{position_in, refusal_of};
 ghost use Rattle.pdl_choice.specs.Edges.{edge_refuses, from_zero};
 ghost use Rattle.pdl_choice.specs.declared.edges.Edge.TheVariants.{Refuse, Zero};
-ghost use Rattle.pdl_choice.specs.Rounds.{AreKnown, CanPlaceAll, CanPlaceEach, numbers_at, placed, window_place, window_starts};
+ghost use Rattle.pdl_choice.specs.Rounds.{AreCorners, CanPlaceAll, CanPlaceEach, numbers_at, placed, window_place, window_starts};
 ghost use Rattle.pdl_choice.specs.Range.{capped, corner_len, is_negative, is_positive, window_refusal, window_sizes, first_refused, inner_dims, range_dims, range_outside, range_source, AllAllowed};
 
 use crate::answers::{count_of, limited};
@@ -451,44 +451,46 @@ fn set_beyond(
 
 /// Adds the places of one position of the windows. Where a window lies inside the parent, its place
 /// lies so far past its corner's as it would past the parent's first corner, whose numbers are
-/// `zeros`; the places at the corners `beyond` are found one by one.
+/// `zeros`; the places at the corners that reach beyond are found one by one.
 fn push_round(
     places: &mut Vec<Option<u32>>,
     edge: Edge,
     parent: &[u32],
     ind: &[i64],
-    bases: &[u32],
-    beyond: &[u32],
+    known: &Corners,
     zeros: &[i64],
     at: &[u32],
 ) -> Result<(), NoMemory>
     requires paired { length at.now ≡ length zeros.now + 1 }
     requires fit { length zeros.now ≤ length parent.now }
-    requires whole { length ind.now ≡ length zeros.now * length bases.now }
-    requires numbers { All (λ q. q < length bases.now) beyond.now }
+    requires whole { length ind.now ≡ length zeros.now * length known.now.bases.items }
+    requires numbers { All (λ q. q < length known.now.bases.items) known.now.beyond.items }
     requires bounded { extent parent.now ≤ extent_limit }
     requires allowed { CanPlaceAll edge parent.now ind.now (length zeros.now) at.now }
     requires within { slice_index at.now (length zeros.now)
         < size_of (drop (length zeros.now) parent.now) }
-    requires small { All (λ base. base ≤ extent_limit) bases.now }
+    requires small { All (λ base. base ≤ extent_limit) known.now.bases.items }
     requires inside { let past = unwrap_or (placed Zero parent.now zeros.now at.now) 0 in
         let corner = λ (q : ℕ). numbers_at ind.now (length zeros.now) q in
-        (q : ℕ) → q < length bases.now → Any (λ b. b ≡ q) beyond.now
-        ⊎ Some (slice_index bases.now q + past) ≡ placed edge parent.now (corner q) at.now }
+        let bases = known.now.bases.items in
+        (q : ℕ) → q < length bases → Any (λ b. b ≡ q) known.now.beyond.items
+        ⊎ Some (slice_index bases q + past) ≡ placed edge parent.now (corner q) at.now }
     ensures { let corner = λ (q : ℕ). numbers_at ind.now (length zeros.now) q in
         let place = λ (q : ℕ). placed edge parent.now (corner q) at.now in
         OnOk result (places.new.items
-        ≡ places.old.items ++ map place (range_with_len 0 (length bases.now))) }
+        ≡ places.old.items ++ map place (range_with_len 0 (length known.now.bases.items))) }
 {
     shape_laws();
+    let bases = known.bases.as_slice();
+    let beyond = known.beyond.as_slice();
     let from = places.len();
     push_past(places, bases, past_first(parent, zeros, at))?;
     set_beyond(&mut places[from..], edge, parent, ind, beyond, at);
     Ok(())
 }
 
-/// The places of all `count` positions of the windows at `corners` corners, found by sums from `bases`
-/// where the corner isn't one of `beyond`.
+/// The places of all `count` positions of the windows at `corners` corners, found by sums where the
+/// corner isn't one that reaches beyond.
 fn places_by_sums(
     alloc: Global,
     edge: Edge,
@@ -497,8 +499,7 @@ fn places_by_sums(
     ind: &[i64],
     corners: u32,
     count: u32,
-    bases: &[u32],
-    beyond: &[u32],
+    known: &Corners,
 ) -> Result<Vec<Option<u32>>, NoMemory>
     requires some { 0 < count }
     requires fit { length windows.now ≤ length parent.now }
@@ -507,9 +508,9 @@ fn places_by_sums(
     requires bounded { extent parent.now ≤ extent_limit }
     requires inner_bounded { extent (inner_dims parent.now windows.now) ≤ extent_limit }
     requires allowed { AllAllowed edge parent.now windows.now ind.now }
-    requires long { length bases.now ≡ corners }
+    requires long { vec_len known.now.bases ≡ corners }
     requires known { let starts = window_starts parent.now windows.now in
-        AreKnown parent.now starts ind.now bases.now beyond.now }
+        AreCorners parent.now starts ind.now known.now.bases.items known.now.beyond.items }
     ensures inside { IfOk result (λ places. AllBelow (size_of parent.now) places.items) }
     ensures places { let place = window_place edge parent.now windows.now ind.now corners in
         IfOk result (λ places. places.items ≡ map place (range_with_len 0 count)) }
@@ -520,7 +521,7 @@ fn places_by_sums(
     let zeros = vec![in alloc; 0; windows.len()]?;
     let mut places = Vec::with_capacity(alloc, count as usize)?;
     for _round in 0..rounds_of(count, corners) {
-        push_round(&mut places, edge, parent, ind, bases, beyond, &zeros, &at)?;
+        push_round(&mut places, edge, parent, ind, known, &zeros, &at)?;
         move_on(&sizes, &mut at);
     }
     Ok(places)
@@ -547,18 +548,14 @@ fn window_places(
     requires long { IfSome known (λ known. vec_len known.bases ≡ corners) }
     requires known { let starts = window_starts parent.now windows.now in
         IfSome known (λ known.
-        AreKnown parent.now starts ind.now known.bases.items known.beyond.items) }
+        AreCorners parent.now starts ind.now known.bases.items known.beyond.items) }
     ensures inside { IfOk result (λ places. AllBelow (size_of parent.now) places.items) }
     ensures places { let place = window_place edge parent.now windows.now ind.now corners in
         IfOk result (λ places. places.items ≡ map place (range_with_len 0 count)) }
 {
     if let Some(known) = known {
         if count > 0 {
-            let bases = known.bases.as_slice();
-            let beyond = known.beyond.as_slice();
-            return places_by_sums(
-                alloc, edge, parent, windows, ind, corners, count, bases, beyond,
-            );
+            return places_by_sums(alloc, edge, parent, windows, ind, corners, count, &known);
         }
     }
     places_one_by_one(alloc, edge, parent, windows, ind, corners, count)

@@ -1,12 +1,13 @@
--- A number in the range is wrapped to itself.
-use Rattle.std.proofs.Common.{◌≡◌, ◌≢◌, ℕ, ◌<◌, ℤ, zero, suc, pos, negsuc, ◌≤ℤ◌, arith, refl, sym}
+-- A number in the range is wrapped to itself, and congruent numbers to the same one.
+use Rattle.std.proofs.Common.{◌≡◌, ◌≢◌, ℕ, ◌*◌, ◌<◌, ℤ, zero, suc, pos, negsuc, ◌+ℤ◌, ◌*ℤ◌, ◌≤ℤ◌, arith, refl, ap, sym, ◌∙◌}
+use borrow.Author.Differences.{up, down, sum_is_lem, product_is}
 use Rattle.std.proofs.lemmas.Int.{ints}
 use Rattle.std.proofs.lemmas.Nat.{div-add-mod'}
 use Rattle.std.proofs.Math.Nat.{mod-lt}
 use Rattle.pdl_elem.specs.declared.Ty.{Ty}
 use Rattle.pdl_elem.specs.declared.Ty.TheVariants.{Sbyte, Byte, Short, Ushort, Long, Ulong, Longlong}
 use Rattle.pdl_elem.specs.Types.{InRange}
-use Rattle.pdl_elem.specs.Numbers.{wrapped, WrapsTo}
+use Rattle.pdl_elem.specs.Numbers.{AreCongruent, count_of, wrapped, WrapsTo}
 use Rattle.pdl_elem.specs.Operators.{modulo}
 use Rattle.pdl_elem.proofs.NumbersWrapped.{wraps}
 
@@ -22,6 +23,40 @@ wrapped_only Longlong z r h = let w = wraps Longlong z in omega (arith, ints, w.
 
 pub wrapped_same : (t : Ty) (n : ℤ) → InRange t n → wrapped t n ≡ n
 wrapped_same t n h = sym (wrapped_only t n n (record { in_range = h; congruent = (pos 0, omega (arith, ints)) }))
+
+-- ---- congruent numbers
+
+-- what is congruent to a number that is congruent to a third one
+congruent_on : (a b r k l m : ℤ) → a ≡ b +ℤ k *ℤ m → b ≡ r +ℤ l *ℤ m → a ≡ r +ℤ (k +ℤ l) *ℤ m
+congruent_on a b r k l m e f = let s = sum_is_lem k l in omega (arith, ints, e, f, ap (λ n. n * up m) s, ap (λ n. n * down m) s)
+
+-- the products with one number
+congruent_times : (a r k m x : ℤ) → a ≡ r +ℤ k *ℤ m → a *ℤ x ≡ (r *ℤ x) +ℤ (k *ℤ x) *ℤ m
+congruent_times a r k m x e =
+    let s = sum_is_lem r (k *ℤ m) in
+    let p = product_is k m in
+    let q = product_is k x in
+    ap (λ z. z *ℤ x) e
+    ∙ omega (arith, ints, ap (λ n. n * up x) s, ap (λ n. n * down x) s, ap (λ n. n * up x) p.0, ap (λ n. n * down x) p.0, ap (λ n. n * up x) p.1, ap (λ n. n * down x) p.1, ap (λ n. n * up m) q.0, ap (λ n. n * down m) q.0, ap (λ n. n * up m) q.1, ap (λ n. n * down m) q.1)
+
+-- congruent numbers are wrapped to the same one
+wrapped_alike : (t : Ty) (a b : ℤ) → AreCongruent (count_of t) a b → wrapped t b ≡ wrapped t a
+wrapped_alike t a b h =
+    let w : WrapsTo t b (wrapped t b) = wraps t b in
+    wrapped_only t a (wrapped t b) (record { in_range = w.in_range; congruent = (h.0 +ℤ w.congruent.0, congruent_on a b (wrapped t b) h.0 w.congruent.0 (pos (count_of t)) h.1 w.congruent.1) })
+
+added : (a r k m x : ℤ) → a ≡ r +ℤ k *ℤ m → a +ℤ x ≡ (r +ℤ x) +ℤ k *ℤ m
+added a r k m x e = omega (arith, ints, e)
+
+pub wrapped_in_sum : (t : Ty) (a b : ℤ) → wrapped t (wrapped t a +ℤ b) ≡ wrapped t (a +ℤ b)
+wrapped_in_sum t a b =
+    let w : WrapsTo t a (wrapped t a) = wraps t a in
+    wrapped_alike t (a +ℤ b) (wrapped t a +ℤ b) (w.congruent.0, added a (wrapped t a) w.congruent.0 (pos (count_of t)) b w.congruent.1)
+
+pub wrapped_in_product : (t : Ty) (a b : ℤ) → wrapped t (wrapped t a *ℤ b) ≡ wrapped t (a *ℤ b)
+wrapped_in_product t a b =
+    let w : WrapsTo t a (wrapped t a) = wraps t a in
+    wrapped_alike t (a *ℤ b) (wrapped t a *ℤ b) (w.congruent.0 *ℤ b, congruent_times a (wrapped t a) w.congruent.0 (pos (count_of t)) b w.congruent.1)
 
 -- ---- what a division leaves
 

@@ -1,5 +1,5 @@
 -- What holds of all numbers that are wrapped, and of what operators give.
-use Rattle.std.specs.Prelude.{◌≡◌, ◌<◌, ℕ, ℤ, pos, List, length, get_or, All}
+use Rattle.std.specs.Prelude.{◌≡◌, ◌<◌, ℕ, ℤ, pos, ◌+ℤ◌, ◌*ℤ◌, List, length, get_or, All}
 use Rattle.std.specs.Int.{int_wrap, w64}
 use Rattle.pdl_elem.specs.declared.Ty.{Ty}
 use Rattle.pdl_elem.specs.declared.Ty.TheVariants.{Longlong}
@@ -21,6 +21,12 @@ pub record WrappingLaws : Type 0 where
   pub zero : (t : Ty) → InRange t (pos 0)
   pub widest : (t : Ty) (n : ℤ) → InRange t n → InRange Longlong n
   pub least : (t : Ty) → InRange t (lowest Longlong) → t ≡ Longlong
+
+-- A number may be wrapped before another one is added to it, or before it is multiplied by another one:
+-- what comes of that is wrapped to the same number.
+pub record CongruenceLaws : Type 0 where
+  pub sum : (t : Ty) (a b : ℤ) → wrapped t (wrapped t a +ℤ b) ≡ wrapped t (a +ℤ b)
+  pub product : (t : Ty) (a b : ℤ) → wrapped t (wrapped t a *ℤ b) ≡ wrapped t (a *ℤ b)
 
 -- What an operator gives is a number of the type of its result.
 pub record OperatorLaws : Type 0 where

@@ -18,7 +18,7 @@ pub use known::{
     KnownOp, ToAdd, ToAnd, ToDiv, ToEq, ToGe, ToGt, ToLe, ToLt, ToMul, ToNe, ToOr, ToRem, ToShl,
     ToShr, ToSub, ToXor,
 };
-pub use laws::{block_laws, operator_laws, wrapping_laws};
+pub use laws::{block_laws, congruence_laws, operator_laws, wrapping_laws};
 pub use naming::{type_name, type_named, type_word};
 pub use operators::{apply, binary, binary_type, promote, unary, unary_type, wrap};
 pub use strings::{Name, Text};

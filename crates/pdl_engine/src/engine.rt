@@ -1,9 +1,7 @@
 //! The engine and its calls.
-ghost use Rattle.std.specs.Prelude.{◌≡◌, ◌≢◌, ◌↔◌, ℕ, ℤ, List, ◌+◌, ◌<◌, ◌≤◌, ◌^◌, if◌then◌else◌, nat_lt, true, false, length, map, All, IfOk, IfErr, IfSome, IsTrue, OnOk, OnErr, Ok, Some, None, is_ok, is_some, option_map, ◌==◌};
+ghost use Rattle.std.specs.Prelude.{◌≡◌, ◌≢◌, ◌↔◌, ℕ, ℤ, List, ◌+◌, ◌<◌, ◌≤◌, ◌^◌, if◌then◌else◌, nat_lt, true, false, length, IfOk, IfErr, IfSome, IsTrue, OnOk, OnErr, Ok, Some, None, is_ok, is_some, option_map, ◌==◌};
 ghost use Rattle.pdl_numbers.specs.Typed.{count_moved};
-ghost use Rattle.pdl_numbers.specs.Updates.{Suits, updated};
 ghost use Rattle.pdl_buf.specs.Made.{IsMade};
-ghost use Rattle.pdl_elem.specs.Types.{InRange};
 ghost use Rattle.pdl_shape.specs.Shape.{IsDims, size_of};
 ghost use Rattle.pdl_world.specs.Cut.{breaks, reshape, sever};
 ghost use Rattle.pdl_world.specs.Formula.{is_well_formed};
@@ -11,7 +9,6 @@ ghost use Rattle.pdl_world.specs.Paths.{depth_limit, parent_in, path, root_of};
 ghost use Rattle.pdl_world.specs.Refused.{view_refusal};
 ghost use Rattle.pdl_world.specs.Sound.{IsLive, IsSound};
 ghost use Rattle.pdl_world.specs.Swept.{is_listed};
-ghost use Rattle.pdl_world.specs.Parts.{assign_part};
 ghost use Rattle.pdl_world.specs.World.{assign, dims_in, elements, has_repeats, look, places_in, root, ty_in, view};
 ghost use Rattle.pdl_nodes.specs.Sized.{IsLayout};
 ghost use Rattle.pdl_engine.specs.Foresights.{Foretells, IsForeseen};
@@ -22,7 +19,7 @@ ghost use Rattle.pdl_engine.specs.Held.{AllHaveHolds, AreApart, ChangesFamily, F
 ghost use Rattle.pdl_engine.specs.Looks.{array_numbers, past, trans_in};
 ghost use Rattle.pdl_engine.specs.Reading.{read_steps};
 ghost use Rattle.pdl_engine.specs.Resting.{IsResting};
-ghost use Rattle.pdl_engine.specs.State.{IsLazy, IsLentAs, Joins, OthersWait, PathIsFresh, SameArrays, StayFresh, TargetIsFresh, TargetWaits, base, is_fresh, no_arrays, ready_steps, shown_in, waiting};
+ghost use Rattle.pdl_engine.specs.State.{IsLazy, IsLentAs, Joins, OthersWait, PathIsFresh, SameArrays, StayFresh, base, is_fresh, no_arrays, ready_steps, shown_in, waiting};
 
 use crate::depth::is_deeper;
 use crate::foreseeing::{Foreseen, Foresight, foresee, foretell};
@@ -34,7 +31,6 @@ use pdl_nodes::{
     Holds, Layout, Origin, RelayFault as ReshapeFault, Table, ViewFault, insert, layout, root_node,
     row_laws, view_node,
 };
-use pdl_numbers::Update;
 use pdl_shape::{Dims, dims_list, shape_laws, triple_laws};
 use pdl_world::{
     MOST_VIEWS, Trans, assignment_laws, cut_laws, growth_laws, part_laws, repeat_laws,
@@ -311,58 +307,6 @@ impl Engine {
         readying::ready(&mut self.table, self.alloc, id, steps)
     }
 
-    /// Puts the values at the array's positions, in rising order. The array is one that can be
-    /// lent. Arrays of other families can be lent afterwards as before. It takes a step for each
-    /// value, and no memory.
-    pub fn assign<L: Ledger>(&mut self, id: ArrayId, values: &[i64], steps: &mut Steps<L>)
-        requires live { IsLive self.old.world id }
-        requires fresh { is_fresh self.old id ≡ true }
-        requires count { length values.now ≡ size_of (dims_in self.old.world id) }
-        requires in_range { All (InRange (ty_in self.old.world id)) values.now }
-        ensures world { self.new.world ≡ assign self.old.world id values.now }
-        ensures holds { self.new.holds ≡ self.old.holds }
-        ensures next { self.new.next ≡ self.old.next }
-        ensures others { (u : ℕ) → (root_of self.old.world u ≡ root_of self.old.world id → ⊥)
-            → is_fresh self.old u ≡ true → is_fresh self.new u ≡ true }
-        ensures sound { IsSound self.new.world }
-        ensures target { TargetIsFresh self.old id self.new }
-        ensures waits { TargetWaits self.old id self.new }
-        ensures counted { steps.new ≡ steps.old + length values.now }
-    {
-        part_laws();
-        self.assign_part(id, 0, values, steps)
-    }
-
-    /// Puts values at the array's positions from one on, in rising order. Else it is as `assign`: the
-    /// array is one that can be lent, arrays of other families can be lent afterwards as before, and
-    /// it takes a step for each value, and no memory. Parts one after another are the whole
-    /// assignment. The array itself can be lent afterwards unless its base has repeats.
-    pub fn assign_part<L: Ledger>(
-        &mut self,
-        id: ArrayId,
-        first: u32,
-        values: &[i64],
-        steps: &mut Steps<L>,
-    )
-        requires live { IsLive self.old.world id }
-        requires fresh { is_fresh self.old id ≡ true }
-        requires within { first + length values.now ≤ size_of (dims_in self.old.world id) }
-        requires in_range { All (InRange (ty_in self.old.world id)) values.now }
-        ensures world { self.new.world ≡ assign_part self.old.world id first values.now }
-        ensures holds { self.new.holds ≡ self.old.holds }
-        ensures next { self.new.next ≡ self.old.next }
-        ensures others { (u : ℕ) → (root_of self.old.world u ≡ root_of self.old.world id → ⊥)
-            → is_fresh self.old u ≡ true → is_fresh self.new u ≡ true }
-        ensures sound { IsSound self.new.world }
-        ensures target { TargetIsFresh self.old id self.new }
-        ensures waits { TargetWaits self.old id self.new }
-        ensures counted { steps.new ≡ steps.old + length values.now }
-    {
-        row_laws();
-        part_laws();
-        pdl_push::assign(&mut self.table, id, first, values, steps)
-    }
-
     /// Whether the base of an array is its root, so that its elements stand there.
     pub fn stands_in_root(&self, id: ArrayId) -> bool
         requires { IsLive self.now.world id }
@@ -371,57 +315,6 @@ impl Engine {
         row_laws();
         let node = self.table.node(id);
         node.base() == node.root()
-    }
-
-    /// Each element of an array becomes an operator's value on it and one number, which is of its
-    /// type and no divisor 0. The array is one that can be lent, its base is its root, and it shows
-    /// no place twice. Else it is as `assign` of these values: they are put where the elements
-    /// stand, in one pass. It takes a step for each, and no memory. The array can be lent
-    /// afterwards.
-    pub fn update<L: Ledger>(&mut self, id: ArrayId, change: Update, steps: &mut Steps<L>)
-        requires live { IsLive self.old.world id }
-        requires fresh { is_fresh self.old id ≡ true }
-        requires over_root { base self.old.world id ≡ root_of self.old.world id }
-        requires once { has_repeats (places_in self.old.world id) ≡ false }
-        requires suits { Suits (ty_in self.old.world id) change }
-        ensures world { let w = self.old.world in
-            let values = map (updated (ty_in w id) change) (elements w id) in
-            self.new.world ≡ assign w id values }
-        ensures holds { self.new.holds ≡ self.old.holds }
-        ensures next { self.new.next ≡ self.old.next }
-        ensures others { (u : ℕ) → (root_of self.old.world u ≡ root_of self.old.world id → ⊥)
-            → is_fresh self.old u ≡ true → is_fresh self.new u ≡ true }
-        ensures sound { IsSound self.new.world }
-        ensures target { TargetIsFresh self.old id self.new }
-        ensures waits { TargetWaits self.old id self.new }
-        ensures counted { steps.new ≡ steps.old + size_of (dims_in self.old.world id) }
-    {
-        row_laws();
-        part_laws();
-        pdl_push::update(&mut self.table, id, change, steps)
-    }
-
-    /// Puts these elements at the positions of a root, as `assign` does. They are taken over as they
-    /// are kept: no element is moved, so it takes no step, and no memory.
-    pub fn replace(&mut self, id: ArrayId, values: Buf)
-        requires live { IsLive self.old.world id }
-        requires fresh { is_fresh self.old id ≡ true }
-        requires root { root_of self.old.world id ≡ id }
-        requires type_is { values.ty ≡ ty_in self.old.world id }
-        requires count { length values.elems ≡ size_of (dims_in self.old.world id) }
-        requires in_range { All (InRange (ty_in self.old.world id)) values.elems }
-        ensures world { self.new.world ≡ assign self.old.world id values.elems }
-        ensures holds { self.new.holds ≡ self.old.holds }
-        ensures next { self.new.next ≡ self.old.next }
-        ensures others { (u : ℕ) → (root_of self.old.world u ≡ root_of self.old.world id → ⊥)
-            → is_fresh self.old u ≡ true → is_fresh self.new u ≡ true }
-        ensures sound { IsSound self.new.world }
-        ensures target { TargetIsFresh self.old id self.new }
-        ensures waits { TargetWaits self.old id self.new }
-    {
-        row_laws();
-        part_laws();
-        pdl_push::replace(&mut self.table, id, values)
     }
 
     /// Whether it is plain that an array is a view that is its own base and wasn't read: it can't be
@@ -513,7 +406,7 @@ impl Engine {
         ensures counted { let most = ready_steps self.old id in steps.new ≤ steps.old + most }
     {
         row_laws();
-        gathering::gather(&mut self.table, self.alloc, id, steps)
+        gathering::gathered(&mut self.table, self.alloc, id, steps)
     }
 
     /// The root of an array, by which two arrays are of one family.

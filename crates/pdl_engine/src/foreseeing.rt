@@ -123,18 +123,34 @@ fn read_more(window: &Strided<'_>, numbers: &mut Vec<i64>, count: usize) -> Resu
     Ok(())
 }
 
-/// The elements that a window shows.
+/// The elements that a window shows, which are so many, read block by block.
+#[inline(never)]
+fn many_shown(alloc: Global, window: &Strided<'_>, count: usize) -> Result<Vec<i64>, AllocError>
+    requires counted { count ≡ length window.now.elems }
+    requires few { count ≤ extent_limit }
+    ensures items { IfOk result (λ ns. ns.items ≡ window.now.elems) }
+    ensures in_range { IfOk result (λ ns. All (InRange window.now.ty) ns.items) }
+{
+    let mut numbers = Vec::with_capacity(alloc, count)?;
+    while numbers.len() < count {
+        let more = READ.min(count - numbers.len());
+        read_more(window, &mut numbers, more)?;
+    }
+    Ok(numbers)
+}
+
+/// The elements that a window shows. Those of one block are read at once.
 pub fn all_shown(alloc: Global, window: &Strided<'_>) -> Result<Vec<i64>, AllocError>
     ensures items { IfOk result (λ ns. ns.items ≡ window.now.elems) }
     ensures in_range { IfOk result (λ ns. All (InRange window.now.ty) ns.items) }
     ensures count { IfOk result (λ ns. length ns.items ≡ size_of window.now.dims) }
 {
     let count = elements_of(strided_dims(window)) as usize;
-    let mut numbers = Vec::with_capacity(alloc, count)?;
-    while numbers.len() < count {
-        let more = READ.min(count - numbers.len());
-        read_more(window, &mut numbers, more)?;
+    if READ < count {
+        return many_shown(alloc, window, count);
     }
+    let mut numbers = vec![in alloc; 0; count]?;
+    strided_read(window, 0, &mut numbers);
     Ok(numbers)
 }
 

@@ -12,7 +12,7 @@ ghost use Rattle.pdl_pull.specs.Outdated.{outdated};
 ghost use Rattle.pdl_push.specs.Settled.{OthersWait};
 ghost use Rattle.pdl_engine.specs.Through.{IsUnmarked};
 
-use pdl_buf::{Buf, Steps, gathered};
+use pdl_buf::{Buf, Steps};
 use pdl_nodes::{Table, row_laws};
 use pdl_pull::find;
 use pdl_push::settle;
@@ -41,13 +41,13 @@ fn read_root<L: Ledger>(
     row_laws();
     let node = table.node(id);
     let root = table.node(node.root());
-    gathered(alloc, root.kept(), places, steps)
+    pdl_buf::gathered(alloc, root.kept(), places, steps)
 }
 
 /// A buffer of the elements of a view that is its own base and isn't marked, read from its root at its
 /// places, which are found first. What waits in the view's family is written back, and each array on
 /// its parent's path is made fresh. The view keeps nothing of it.
-pub fn gather<L: Ledger>(
+pub fn gathered<L: Ledger>(
     table: &mut Table,
     alloc: Global,
     id: u64,

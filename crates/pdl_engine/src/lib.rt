@@ -7,8 +7,8 @@
 //! arrays are kept is the node table's (`pdl_nodes`).
 #![tactic(auto)]
 
+mod assigning;
 mod by_place;
-mod copying;
 mod depth;
 mod engine;
 mod foreseeing;
@@ -26,3 +26,6 @@ pub use engine::{ArrayId, Engine};
 pub use foreseeing::{Foreseen, Foresight, all_shown};
 pub use laws::{followed_scripts, hold_laws, worked_scripts};
 pub use pdl_nodes::{RelayFault as ReshapeFault, ViewFault};
+
+/// How many elements are read at once.
+const BLOCK: usize = 512;

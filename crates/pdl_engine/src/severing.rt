@@ -20,6 +20,7 @@ ghost use Rattle.pdl_nodes.specs.Worlds.{world_of};
 ghost use Rattle.pdl_engine.specs.Loose.{listed_with};
 ghost use Rattle.pdl_engine.specs.Severed.{BasesAreFresh, ChangesRows, RowsAreSettled, RowsStayFresh};
 
+use crate::BLOCK;
 use pdl_buf::{
     Buf, Elements, Packing, Steps, Strided, buf_of_elements, strided, strided_dims, strided_read,
     strided_type,
@@ -30,9 +31,6 @@ use pdl_push::settle;
 use pdl_shape::{Dims, copy_dims, dims_list, elements_of, shape_laws};
 use std::alloc::{AllocError, Global};
 use std::sync::ledger::Ledger;
-
-/// How many elements are read at once.
-pub(crate) const BLOCK: usize = 512;
 
 /// Packs the elements that are shown from one on, as many as the block is long.
 fn pack_block(

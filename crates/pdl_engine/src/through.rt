@@ -15,7 +15,7 @@ ghost use Rattle.pdl_pull.specs.Outdated.{outdated};
 ghost use Rattle.pdl_push.specs.Settled.{OthersWait};
 ghost use Rattle.pdl_engine.specs.Through.{CanGoThrough, WentThrough, IsUnmarked, OthersStayMarked};
 
-use crate::severing::BLOCK;
+use crate::BLOCK;
 use pdl_buf::{Steps, strided, strided_read};
 use pdl_nodes::{Table, row_laws};
 use pdl_pull::find;

@@ -6,6 +6,7 @@ pub mod ReadRuns
 pub mod TypedParts
 pub mod Summing
 pub mod PrefixLemmas
+pub mod FoldLemmas
 pub mod ShownLemmas
 pub mod WriteRuns
 pub mod UpdateLemmas

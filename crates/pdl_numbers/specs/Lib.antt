@@ -6,4 +6,5 @@ pub mod Reads
 pub mod Writes
 pub mod Updates
 pub mod Prefixes
+pub mod Folds
 pub mod Laws

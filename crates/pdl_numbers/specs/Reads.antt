@@ -28,7 +28,8 @@ LieAcross ds first count = (first / get_or ds 0 1) % get_or ds 1 1 + count ≤ g
 
 -- each of these is what it was with the number taken in that the triple shows so many steps along
 -- dimension 1 after a position
-abbrev pub HasTakenAcross : (taken : ℤ → ℤ → ℤ) → Triple → (elems : List ℤ) → (first : ℕ) → (old new : List ℤ) → Type 0
+abbrev pub HasTakenAcross : (taken : ℤ → ℤ → ℤ) → Triple → (elems : List ℤ) → (first : ℕ)
+    → (old new : List ℤ) → Type 0
 HasTakenAcross taken t es first old new =
     (k : ℕ) → k < length old → get_or new k (pos 0)
     ≡ taken (get_or old k (pos 0)) (get_or es (place_at t (across t.dims first k)) (pos 0))

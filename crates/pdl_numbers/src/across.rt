@@ -12,8 +12,8 @@ use crate::types::PackedType;
 use pdl_shape::shape_laws;
 
 /// Takes the numbers from a place on, each so far after the one before, into what others before
-/// each of them come to.
-#[inline(always)]
+/// each of them come to. Vectors of words of 64 bits take longer than one number at a time where
+/// those are multiplied or compared, so no step has a loop of its own.
 fn take_steps<F: Folding, T: PackedType<N>, const N: usize>(
     numbers: &Packed<T, N>,
     place: u32,
@@ -29,27 +29,6 @@ fn take_steps<F: Folding, T: PackedType<N>, const N: usize>(
     let cells = numbers.cells();
     for (j, come_to) in so_far.iter_mut().enumerate() {
         *come_to = F::take(*come_to, number_after::<T, N>(cells, place, inc, j));
-    }
-}
-
-/// The same. Neighbours have the loop for themselves: of a step that it knows the compiler makes
-/// vectors.
-fn take_by_step<F: Folding, T: PackedType<N>, const N: usize>(
-    numbers: &Packed<T, N>,
-    place: u32,
-    inc: i32,
-    so_far: &mut [i64],
-)
-    requires small { length so_far.old ≤ extent_limit }
-    requires inside { LiesInside (length numbers.now) place inc (length so_far.old) }
-    ensures { (j : ℕ) → j < length so_far.old →
-        let number = get_or numbers.now (unsigned_abs (pos place +ℤ inc *ℤ pos j)) (pos 0) in
-        get_or so_far.new j (pos 0) ≡ F.taken (get_or so_far.old j (pos 0)) number }
-{
-    if inc == 1 {
-        take_steps::<F, T, N>(numbers, place, 1, so_far);
-    } else {
-        take_steps::<F, T, N>(numbers, place, inc, so_far);
     }
 }
 
@@ -72,5 +51,5 @@ pub(crate) fn take_across<F: Folding, T: PackedType<N>, const N: usize>(
     shape_laws();
     let place = placement.place(first);
     let inc = inc_along(placement.triple(), 1);
-    take_by_step::<F, T, N>(numbers, place, inc, so_far);
+    take_steps::<F, T, N>(numbers, place, inc, so_far);
 }

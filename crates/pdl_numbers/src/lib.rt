@@ -6,6 +6,7 @@
 
 mod across;
 mod copies;
+mod folds;
 mod laws;
 mod numbers;
 mod packed;
@@ -23,7 +24,7 @@ mod writes;
 
 pub use laws::{prefix_laws, shown_laws};
 pub use numbers::{Numbers, numbers_of};
-pub use placement::Placement;
+pub use placement::{Placement, shows_identity};
 pub use prefixes::Folding;
 pub use routes::Route;
 pub use runs::Run;

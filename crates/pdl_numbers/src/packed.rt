@@ -15,7 +15,7 @@ ghost use Rattle.pdl_numbers.specs.Shown.{shown_through};
 ghost use Rattle.pdl_numbers.specs.Bytes.{ArePacked, IsPacked, bytes_of, number_of};
 
 use crate::placement::{Placement, place_after};
-use crate::prefixes::{Folding, pack_prefixes};
+use crate::prefixes::{AT_ONCE, Folding, pack_prefixes};
 use crate::routes::Route;
 use crate::types::PackedType;
 use pdl_elem::{KnownOp, apply, block_laws, wrapping_laws};
@@ -24,7 +24,10 @@ use std::alloc::{AllocError, Global};
 use std::marker::{Model, PhantomData};
 
 /// So many numbers are fetched at once.
-const FETCHED: usize = 1024;
+const FETCHED: usize = 256;
+
+/// So few numbers are put one by one.
+const FEW: usize = 16;
 
 /// A list of numbers of the type `T`, each kept as its bytes.
 #[derive(Debug, Drop)]
@@ -136,7 +139,9 @@ fn update_all<O: KnownOp, T: PackedType<N>, const N: usize>(number: i64, cells: 
 }
 
 /// The numbers in so many cells from a place on, each so far after the one before, become an
-/// operator's value on them and another number.
+/// operator's value on them and another number. In line a step that is known takes no word of its
+/// own, and fewer instructions.
+#[inline(always)]
 fn update_along<O: KnownOp, T: PackedType<N>, const N: usize>(
     number: i64,
     place: u32,
@@ -190,8 +195,10 @@ fn fetch_cell<T: PackedType<N>, const N: usize>(
     }
 }
 
-/// Sets each of these cells of 0 to the one at its place among others, where there is one.
-fn gather_cells<T: PackedType<N>, const N: usize>(
+/// Sets each of these cells of 0 to the one at its place among others, where there is one. In line a
+/// known number of cells needs no test between them.
+#[inline(always)]
+fn gather_part<T: PackedType<N>, const N: usize>(
     from: &[[u8; N]],
     places: &[Option<u32>],
     cells: &mut [[u8; N]],
@@ -204,6 +211,48 @@ fn gather_cells<T: PackedType<N>, const N: usize>(
     for (i, place) in places.iter().enumerate() {
         fetch_cell::<T, N>(from, *place, &mut cells[i]);
     }
+}
+
+/// Sets each of these cells of 0 to the one at its place among others, where there is one.
+fn gather_cells<T: PackedType<N>, const N: usize>(
+    from: &[[u8; N]],
+    places: &[Option<u32>],
+    cells: &mut [[u8; N]],
+)
+    requires paired { length cells.old ≡ length places.now }
+    requires zeros { All (λ cell. cell ≡ bytes_of T.ty (pos 0)) cells.old }
+    requires packed { ArePacked T.ty from.now }
+    ensures { cells.new ≡ map (bytes_of T.ty) (read places.now (map (number_of T.ty) from.now)) }
+{
+    let mut done = 0;
+    while AT_ONCE <= cells.len() - done {
+        let end = done + AT_ONCE;
+        gather_part::<T, N>(from, &places[done..end], &mut cells[done..end]);
+        done = end;
+    }
+    gather_part::<T, N>(from, &places[done..], &mut cells[done..]);
+}
+
+/// The cells at the places among others, in order, and one of 0 where there is none. They are put
+/// one by one: for a few that is quicker than to clear room for all of them first.
+fn fetched<T: PackedType<N>, const N: usize>(
+    alloc: Global,
+    from: &[[u8; N]],
+    places: &[Option<u32>],
+) -> Result<Vec<[u8; N]>, AllocError>
+    requires { ArePacked T.ty from.now }
+    ensures { let values = read places.now (map (number_of T.ty) from.now) in
+        IfOk result (λ cells. cells.items ≡ map (bytes_of T.ty) values) }
+{
+    wrapping_laws();
+    let zero = T::pack(0);
+    let mut cells = Vec::with_capacity(alloc, places.len())?;
+    for place in places {
+        let mut cell = zero;
+        fetch_cell::<T, N>(from, *place, &mut cell);
+        cells.push_reserved(cell);
+    }
+    Ok(cells)
 }
 
 /// Sets the cell at a place, where there is one among these.
@@ -398,7 +447,9 @@ impl<T: PackedType<N>, const N: usize> Packed<T, N> {
     }
 
     /// So many numbers from a place on, each so far after the one before, all of which are among
-    /// these, become an operator's value on them and another number. Neighbours are taken at once.
+    /// these, become an operator's value on them and another number. Neighbours are taken at once,
+    /// and every second one of 4 bytes or more in a loop of its own. Of smaller ones the compiler
+    /// would make vectors, which take longer.
     pub(crate) fn update_run<O: KnownOp>(&mut self, number: i64, place: u32, inc: i32, count: usize)
         requires number { InRange T.ty number }
         requires divisor { IsTrue (divides O.op) → number ≢ pos 0 }
@@ -411,6 +462,8 @@ impl<T: PackedType<N>, const N: usize> Packed<T, N> {
     {
         if inc == 1 {
             self.update_from::<O>(number, place as usize, count)
+        } else if inc == 2 && 4 <= N {
+            update_along::<O, T, N>(number, place, 2, count, self.cells.as_mut_slice())
         } else {
             update_along::<O, T, N>(number, place, inc, count, self.cells.as_mut_slice())
         }
@@ -546,9 +599,26 @@ impl<T: PackedType<N>, const N: usize> Packed<T, N> {
         Ok(())
     }
 
+    /// The numbers at a few places, with 0 where there is none among these.
+    fn few_gathered(
+        &self,
+        alloc: Global,
+        places: &[Option<u32>],
+    ) -> Result<Packed<T, N>, AllocError>
+        ensures { IfOk result (λ packed. packed ≡ read places.now self.now) }
+    {
+        wrapping_laws();
+        let cells = fetched::<T, N>(alloc, self.cells.as_slice(), places)?;
+        Ok(Packed {
+            cells,
+            ty: PhantomData,
+        })
+    }
+
     /// The numbers at the places, with 0 where there is none among these. They are fetched in
     /// blocks: the cells of one are still in the cache when the numbers come into them.
-    pub(crate) fn gathered(
+    #[inline(never)]
+    fn many_gathered(
         &self,
         alloc: Global,
         places: &[Option<u32>],
@@ -563,6 +633,21 @@ impl<T: PackedType<N>, const N: usize> Packed<T, N> {
             done += size;
         }
         Ok(packed)
+    }
+
+    /// The numbers at the places, with 0 where there is none among these.
+    pub(crate) fn gathered(
+        &self,
+        alloc: Global,
+        places: &[Option<u32>],
+    ) -> Result<Packed<T, N>, AllocError>
+        ensures { IfOk result (λ packed. packed ≡ read places.now self.now) }
+    {
+        if places.len() <= FEW {
+            self.few_gathered(alloc, places)
+        } else {
+            self.many_gathered(alloc, places)
+        }
     }
 
     /// The bytes of each number in turn.

@@ -70,6 +70,14 @@ impl Placement {
     }
 }
 
+/// Whether a triple gives each position itself as its place. No placement is made for it.
+pub fn shows_identity(triple: &Triple) -> bool
+    ensures { IsTrue result → (p : ℕ) → p < size_of triple.now.dims → place_at triple.now p ≡ p }
+{
+    shape_laws();
+    triple.offset == 0 && lie_in_order(dims_list(&triple.dims), incs_list(&triple.incs))
+}
+
 /// The place so many steps after another.
 pub(crate) fn place_after(place: u32, inc: i32, steps: usize) -> usize
     requires steps { steps < extent_limit }

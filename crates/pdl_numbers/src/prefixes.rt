@@ -1,14 +1,15 @@
 //! What numbers come to up to each of them, wrapped to a type and packed as it is found.
-ghost use Rattle.std.specs.Prelude.{◌≡◌, ℤ, length, map, fold};
+ghost use Rattle.std.specs.Prelude.{◌≡◌, ℤ, IsTrue, length, map, fold};
 ghost use Rattle.pdl_elem.specs.Numbers.{wrapped};
 ghost use Rattle.pdl_numbers.specs.Bytes.{bytes_of, number_of};
+ghost use Rattle.pdl_numbers.specs.Folds.{WrapsLate};
 ghost use Rattle.pdl_numbers.specs.Prefixes.{wrapped_prefixes};
 
 use crate::types::PackedType;
 use pdl_elem::{wrap, wrapping_laws};
 
 /// So many cells are changed without a test between them.
-const AT_ONCE: usize = 16;
+pub(crate) const AT_ONCE: usize = 16;
 
 /// How a number is taken into what those before it come to.
 pub trait Folding {
@@ -16,10 +17,16 @@ pub trait Folding {
 
     fn take(so_far: i64, number: i64) -> i64
         ensures { result ≡ taken so_far number };
+
+    /// Whether what others come to may as well be wrapped to its type before each number that is
+    /// taken in. Where it may, it can be kept in the width of the type. A folding for which it may
+    /// and that answers false is only slower.
+    fn wraps_late() -> bool
+        ensures { IsTrue result → WrapsLate taken };
 }
 
 /// The bytes of a number that is wrapped to the type.
-fn packed_wrapped<T: PackedType<N>, const N: usize>(number: i64) -> [u8; N]
+pub(crate) fn packed_wrapped<T: PackedType<N>, const N: usize>(number: i64) -> [u8; N]
     ensures { result ≡ bytes_of T.ty (wrapped T.ty number) }
 {
     wrapping_laws();

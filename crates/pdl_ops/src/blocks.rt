@@ -143,8 +143,8 @@ fn many_values(
 }
 
 /// What `values` answers, where so many values are put already: the others are found in blocks of
-/// so many at most, in a room for the operands and the values of one. It is in line where they are
-/// few, for which `begun` and `block` are known.
+/// so many at most, in a room for the operands and the values of one. It is in line at both of its
+/// calls, since that for a few elements knows `begun` and `block`.
 #[inline(always)]
 fn values_within(
     op: BinaryOp,

@@ -175,7 +175,8 @@ pub fn values_for(
 }
 
 /// The same where the right side may have more dimensions than the target: each further one is 1
-/// then. Both are stretched to what they join to. It stays a call: hardly any assignment is so.
+/// then. It is stretched to what both join to, which has the target's positions. It stays a call:
+/// hardly any assignment is so.
 #[inline(never)]
 fn joined_values(
     alloc: Global,

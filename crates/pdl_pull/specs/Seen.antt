@@ -4,4 +4,5 @@ use Rattle.pdl_nodes.specs.Families.{is_among}
 
 -- each place that has a flag is flagged if it is among these, and else isn't
 abbrev pub AreFlagsOf : (places : List (Option ℕ)) (flags : List Bool) → Type 0
-AreFlagsOf places flags = (q : ℕ) → q < length flags → slice_index_or flags q false ≡ is_among q places
+AreFlagsOf places flags = (q : ℕ) → q < length flags
+    → slice_index_or flags q false ≡ is_among q places

@@ -16,6 +16,7 @@ use std::alloc::Global;
 use std::sync::ledger::Ledger;
 
 /// The root's places of a view that is its own base and has a fresh parent.
+#[inline(always)]
 pub(crate) fn find_places(table: &Table, alloc: Global, id: u64) -> Result<Places, NoMemory>
     requires order { InOrder table.now }
     requires known { AreKnown table.now }

@@ -13,7 +13,7 @@ use crate::bit_set::BitSet;
 use pdl_buf::NoMemory;
 use pdl_choice::Places;
 use pdl_nodes::{Layout, entry, placed};
-use pdl_numbers::Placement;
+use pdl_numbers::{Placement, shows_identity};
 use pdl_shape::Triple;
 use std::alloc::Global;
 
@@ -66,8 +66,7 @@ fn are_few(positions: usize, count: u32) -> bool {
 }
 
 /// Whether two positions have the same place: a few by comparing them, none where the places rise,
-/// and others in one pass from the last position on, over a set with a bit for each element of the
-/// root.
+/// and others in one pass from the last position on, over a set of the places seen.
 pub fn has_twice(alloc: Global, places: &[Option<u32>], count: u32) -> Result<bool, NoMemory>
     requires { AllBelow count places.now }
     ensures { IfOk result (λ f. f ≡ has_repeats places.now) }
@@ -205,13 +204,13 @@ fn picks_places(
     own: &[Option<u32>],
     count: u32,
     known: &Option<Places>,
-    shown: &Placement,
+    triple: &Triple,
     size: u32,
 ) -> bool
-    requires shown { size ≡ size_of shown.now.dims }
+    requires shown { size ≡ size_of triple.now.dims }
     requires within { (p : ℕ) → p < count → IsBelow size (entry own.now p) }
     ensures { IsTrue result → own.now ≡ map (λ p.
-        option_and_then (entry (placed_by known.now shown.now)) (entry own.now p))
+        option_and_then (entry (placed_by known.now triple.now)) (entry own.now p))
         (range_with_len 0 count) }
 {
     if known.is_some() {
@@ -220,12 +219,12 @@ fn picks_places(
     if own.len() != count as usize {
         return false;
     }
-    shown.is_identity()
+    shows_identity(triple)
 }
 
-/// The root's places of a view over an array that a triple shows over a base. Where they are those
-/// that the view picks, it is the same list.
-pub fn places_through(
+/// The root's places of a view over an array that a triple shows over a base, found one by one.
+#[inline(never)]
+fn listed_through(
     alloc: Global,
     layout: &Layout,
     count: u32,
@@ -240,16 +239,36 @@ pub fn places_through(
         (range_with_len 0 count)) }
 {
     let shown = Placement::of(triple);
-    if let Layout::Choice(choice) = layout {
-        let own = choice.places.as_slice();
-        if picks_places(own, count, known, &shown, size) {
-            return choice.places.share();
-        }
-    }
     let mut list = Vec::with_capacity(alloc, count as usize)?;
     for position in 0..count {
         let own = own_at(layout, position);
         list.push(place_through(known, &shown, size, own))?;
     }
     Places::new(list)
+}
+
+/// The root's places of a view over an array that a triple shows over a base. Where they are those
+/// that the view picks, it is the same list.
+#[inline(always)]
+pub fn places_through(
+    alloc: Global,
+    layout: &Layout,
+    count: u32,
+    known: &Option<Places>,
+    triple: &Triple,
+    size: u32,
+) -> Result<Places, NoMemory>
+    requires shown { size ≡ size_of triple.now.dims }
+    requires within { (p : ℕ) → p < count → IsBelow size (own_at layout.now p) }
+    ensures { IfOk result (λ places. places ≡ map (λ p.
+        option_and_then (entry (placed_by known.now triple.now)) (own_at layout.now p))
+        (range_with_len 0 count)) }
+{
+    if let Layout::Choice(choice) = layout {
+        let own = choice.places.as_slice();
+        if picks_places(own, count, known, triple, size) {
+            return choice.places.share();
+        }
+    }
+    listed_through(alloc, layout, count, known, triple, size)
 }

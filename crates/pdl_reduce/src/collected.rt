@@ -1,11 +1,16 @@
 //! Results that are collected: however few are put at once, they are packed in blocks.
-ghost use Rattle.std.specs.Prelude.{◌≡◌, ◌++◌, [], All, fold, IfOk, OnOk, OnErr};
+ghost use Rattle.std.specs.Prelude.{◌≡◌, ◌<◌, ◌≤◌, ◌+◌, ◌*◌, ◌%◌, ◌++◌, [], length, map, get_or, All, fold, IfOk, OnOk, OnErr};
+ghost use Rattle.std.specs.List.{range_with_len};
 ghost use Rattle.pdl_elem.specs.Types.{InRange};
+ghost use Rattle.pdl_shape.specs.Shape.{extent_limit};
+ghost use Rattle.pdl_numbers.specs.Folds.{WrapsLate};
 ghost use Rattle.pdl_numbers.specs.Numbers.{elements_in};
 ghost use Rattle.pdl_numbers.specs.Prefixes.{wrapped_prefixes};
+ghost use Rattle.pdl_reduce.specs.Across.{come_to};
 
+use crate::columns::put_lists;
 use crate::windows::BLOCK;
-use pdl_buf::Packing;
+use pdl_buf::{Packing, Strided};
 use pdl_elem::Ty;
 use pdl_numbers::{Folding, Numbers, Run};
 use std::alloc::{AllocError, Global};
@@ -110,6 +115,34 @@ impl Collected {
     {
         pack_block(&mut self.packed, &mut self.block)?;
         self.packed.extend_prefixes_of::<F>(start, run)
+    }
+
+    /// Puts what a window's lists along dimension 0 from one on come to, in one plane, as many as
+    /// there is room for starts, after the others, which have the window's type. They are worked on
+    /// where they are packed.
+    pub(crate) fn extend_lists<F: Folding>(
+        &mut self,
+        a: &Strided<'_>,
+        first: u32,
+        size: u32,
+        start: i64,
+        starts: &mut [i64],
+    ) -> Result<(), AllocError>
+        requires late { WrapsLate F.taken }
+        requires size { size ≡ get_or a.now.dims 0 1 }
+        requires some { 0 < length starts.old }
+        requires few { length starts.old ≤ extent_limit }
+        requires small { length a.now.elems ≤ extent_limit }
+        requires plane { first % get_or a.now.dims 1 1 + length starts.old
+            ≤ get_or a.now.dims 1 1 }
+        requires within { (first + length starts.old) * size ≤ length a.now.elems }
+        requires typed { self.old.ty ≡ a.now.ty }
+        ensures { let at = come_to self.old.ty F.taken start size a.now.elems in
+            let new = map at (range_with_len first (length starts.old)) in
+            OnOk result (self.new ≡ record self.old { elems = self.old.elems ++ new }) }
+    {
+        pack_block(&mut self.packed, &mut self.block)?;
+        put_lists::<F>(a, first, size, start, starts, &mut self.packed)
     }
 
     /// The type of the numbers.

@@ -1,17 +1,20 @@
 //! Sums, products and extremes of the lists along dimension 0, many at once: an element of each
 //! list, then the next one of each, taken in where it stands. Where elements along dimension 1 lie
-//! closer together, the buffer is so read in its order.
+//! closer together, the buffer is so read in its order. Sums and products that have the type of the
+//! array are kept in its width on the way.
 ghost use Rattle.std.specs.Prelude.{◌≡◌, ◌<◌, ◌≤◌, ◌+◌, ◌*◌, ◌%◌, ◌++◌, ℕ, pos, length, fold, map, get_or, OnOk};
 ghost use Rattle.std.specs.List.{range_with_len};
 ghost use Rattle.pdl_shape.specs.Shape.{extent_limit};
+ghost use Rattle.pdl_numbers.specs.Folds.{WrapsLate};
+ghost use Rattle.pdl_numbers.specs.Numbers.{elements_in};
 ghost use Rattle.pdl_reduce.specs.Across.{come_to};
 ghost use Rattle.pdl_reduce.specs.Reductions.{nth_list};
 
 use crate::collected::Collected;
 use crate::matrices::size_at;
-use pdl_buf::{Strided, strided_dims, strided_take_across};
-use pdl_elem::{Ty, wrap_all};
-use pdl_numbers::Folding;
+use pdl_buf::{Strided, strided_dims, strided_fold_across, strided_take_across, strided_type};
+use pdl_elem::{Ty, wrap, wrap_all, wrapping_laws};
+use pdl_numbers::{Folding, Numbers};
 use pdl_shape::dims_list;
 use std::alloc::AllocError;
 
@@ -31,6 +34,41 @@ fn fold_lists<F: Folding>(a: &Strided<'_>, first: u32, size: u32, start: i64, so
     for i in 0..size {
         strided_take_across::<F>(a, first * size + i, so_far);
     }
+}
+
+/// Puts what the lists along dimension 0 from one on come to, in one plane, as many as there is room
+/// for starts, after the others, which have the array's type. Each is wrapped at every number that is
+/// taken in: where wrapping late changes nothing, that is the same as to wrap it at the end.
+pub(crate) fn put_lists<F: Folding>(
+    a: &Strided<'_>,
+    first: u32,
+    size: u32,
+    start: i64,
+    starts: &mut [i64],
+    made: &mut Numbers,
+) -> Result<(), AllocError>
+    requires late { WrapsLate F.taken }
+    requires size { size ≡ get_or a.now.dims 0 1 }
+    requires some { 0 < length starts.old }
+    requires few { length starts.old ≤ extent_limit }
+    requires small { length a.now.elems ≤ extent_limit }
+    requires plane { first % get_or a.now.dims 1 1 + length starts.old ≤ get_or a.now.dims 1 1 }
+    requires within { (first + length starts.old) * size ≤ length a.now.elems }
+    requires typed { (elements_in made.old).ty ≡ a.now.ty }
+    ensures { let old = elements_in made.old in
+        let at = come_to old.ty F.taken start size a.now.elems in
+        let new = map at (range_with_len first (length starts.old)) in
+        OnOk result (elements_in made.new ≡ record old { elems = old.elems ++ new }) }
+{
+    wrapping_laws();
+    let before = made.len();
+    let count = starts.len();
+    starts.fill(wrap(made.ty(), i128::from(start)));
+    made.extend(starts)?;
+    for i in 0..size {
+        strided_fold_across::<F>(a, first * size + i, before, count, made);
+    }
+    Ok(())
 }
 
 /// How many lists from one on stand in one plane of so many, and no more than are left.
@@ -67,6 +105,9 @@ fn add_part<F: Folding>(
         OnOk result (made.new.elems ≡ made.old.elems ++ new) }
     ensures typed { OnOk result (made.new.ty ≡ made.old.ty) }
 {
+    if F::wraps_late() && strided_type(a) == ty {
+        return made.extend_lists::<F>(a, first, size, start, so_far);
+    }
     fold_lists::<F>(a, first, size, start, so_far);
     wrap_all(ty, so_far);
     made.extend(so_far)?;

@@ -3,6 +3,7 @@
 ghost use Rattle.std.specs.Prelude.{◌≡◌, ◌+ℤ◌, ◌*ℤ◌, fold};
 ghost use Rattle.std.specs.Int.{int_max, int_min, int_wrap, w64};
 
+use pdl_elem::{congruence_laws, wrapping_laws};
 use pdl_numbers::Folding;
 
 /// Sums.
@@ -13,6 +14,12 @@ impl Folding for Adding {
 
     fn take(so_far: i64, number: i64) -> i64 {
         so_far.wrapping_add(number)
+    }
+
+    fn wraps_late() -> bool {
+        wrapping_laws();
+        congruence_laws();
+        true
     }
 }
 
@@ -25,6 +32,12 @@ impl Folding for Multiplying {
     fn take(so_far: i64, number: i64) -> i64 {
         so_far.wrapping_mul(number)
     }
+
+    fn wraps_late() -> bool {
+        wrapping_laws();
+        congruence_laws();
+        true
+    }
 }
 
 /// The greatest.
@@ -36,6 +49,10 @@ impl Folding for Rising {
     fn take(so_far: i64, number: i64) -> i64 {
         so_far.max(number)
     }
+
+    fn wraps_late() -> bool {
+        false
+    }
 }
 
 /// The least.
@@ -46,6 +63,10 @@ impl Folding for Falling {
 
     fn take(so_far: i64, number: i64) -> i64 {
         so_far.min(number)
+    }
+
+    fn wraps_late() -> bool {
+        false
     }
 }
 

@@ -27,7 +27,7 @@ ghost use Rattle.pdl_scope.specs.Scope.{engine_of, arrays_of, OnlyReads};
 use crate::fault::ScopeFault;
 use crate::flows::KeptFlow;
 use crate::following::{Change, Values, assign_all, is_followed, plan_flows};
-use crate::laws::assigning_laws;
+use crate::laws::assign_elements_laws;
 use crate::operating::operator_named;
 use crate::reading::{ready, ready_two};
 use crate::scope::Scope;
@@ -215,7 +215,7 @@ impl Scope {
         ensures views { KeepsViews self.new.arrays.world self.old.arrays.world }
         ensures counted { steps.new ≤ steps.old + read_steps (engine_of self.old) target }
     {
-        assigning_laws();
+        assign_elements_laws();
         Ok(assign_through(&mut self.engine, target, value, steps)?)
     }
 
@@ -291,7 +291,7 @@ impl Scope {
         ensures views { KeepsViews self.new.arrays.world self.old.arrays.world }
         ensures counted { steps.new ≤ steps.old + size_of (dims_in self.old.arrays.world target) }
     {
-        assigning_laws();
+        assign_elements_laws();
         match assign_blocks(&mut self.engine, sign, target, value, steps) {
             Ok(()) => Ok(()),
             Err(fault) => Err(ScopeFault::from(fault)),
@@ -307,7 +307,7 @@ impl Scope {
     }
 
     /// What `assign_alone` does, with a list of all values, which are found before one is written. It is
-    /// in line where few values are assigned.
+    /// in line at both of its calls, since that for few values is spared a call.
     #[inline(always)]
     fn assign_listed<L: Ledger>(
         &mut self,
@@ -328,7 +328,7 @@ impl Scope {
             steps.new ≤ steps.old + (read_steps e target + read_steps e value)
             + size_of (dims_in e.world target) }
     {
-        assigning_laws();
+        assign_elements_laws();
         let listed = Keeping::Listed;
         let found = written(
             self.alloc,
@@ -381,7 +381,7 @@ impl Scope {
             steps.new ≤ steps.old + (read_steps e target + read_steps e value) + watched + size
             + following_steps e flows size after }
     {
-        assigning_laws();
+        assign_elements_laws();
         let is_read = self.has_followers(target);
         let found = written(
             self.alloc,

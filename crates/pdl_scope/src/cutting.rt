@@ -20,7 +20,7 @@ ghost use Rattle.pdl_scope.specs.Scope.{engine_of, machine};
 use crate::fault::ScopeFault;
 use crate::flowing::{end_flow, kept_shape, room_to_end};
 use crate::holding::{bind_one, hold_parent, note};
-use crate::laws::{cutting_laws, more_held_law};
+use crate::laws::{cut_apart_laws, more_held_law};
 use crate::scope::Scope;
 use pdl_buf::Steps;
 use pdl_elem::Name;
@@ -166,7 +166,7 @@ fn cut_apart<L: Ledger>(
     ensures count { length leaving.new.items ≤ length leaving.old.items + 1 }
     ensures room { vec_capacity leaving.old ≤ vec_capacity leaving.new }
 {
-    cutting_laws();
+    cut_apart_laws();
     hold_parent(engine, leaving, id);
     engine.sever(id, steps)
 }

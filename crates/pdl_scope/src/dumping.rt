@@ -21,7 +21,7 @@ ghost use Rattle.pdl_scope.specs.Scope.{engine_of, machine, OnlyReads};
 use crate::fault::ScopeFault;
 use crate::flows::KeptFlow;
 use crate::kernels::Kernels;
-use crate::laws::{dumping_laws, lines_law};
+use crate::laws::{lines_law, write_arrays_laws};
 use crate::names::Names;
 use crate::reading::ready;
 use crate::scope::Scope;
@@ -130,7 +130,7 @@ fn all_numbers(alloc: Global, engine: &Engine) -> Result<Vec<ArrayId>, AllocErro
     requires { IsSound engine.now.world }
     ensures { IfOk result (λ ids. ids.items ≡ array_numbers engine.now.world) }
 {
-    dumping_laws();
+    write_arrays_laws();
     let mut ids = Vec::with_capacity(alloc, engine.live() as usize)?;
     let mut next = engine.next_live(None);
     while let Some(id) = next {
@@ -170,7 +170,7 @@ fn write_arrays<L: Ledger>(
         steps.new ≤ steps.old + sum_by (dump_steps e) e.world }
 {
     lines_law();
-    dumping_laws();
+    write_arrays_laws();
     for at in 0..ids.len() {
         write_array(engine, ids, at, image, steps)?;
     }
@@ -196,7 +196,7 @@ fn write_array<L: Ledger>(
     ensures counted { let e = engine.old in
         steps.new ≤ steps.old + dump_steps e (array_at e.world at) }
 {
-    dumping_laws();
+    write_arrays_laws();
     let id = ids[at];
     match engine.parent(id) {
         Some(parent) => write_view(engine, id, at, place_of(ids, parent), image),

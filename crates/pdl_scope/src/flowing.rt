@@ -29,7 +29,7 @@ ghost use Rattle.pdl_scope.specs.declared.fault.ScopeFault.TheVariants.{NoMemory
 use crate::fault::ScopeFault;
 use crate::flows::KeptFlow;
 use crate::holding::{bind_one, note_all, release_all};
-use crate::laws::{holding_laws, leaving_laws, more_held_law};
+use crate::laws::{hold_once_laws, leaving_laws, more_held_law};
 use crate::limits::MOST_READS;
 use crate::scope::Scope;
 use crate::watching::is_watched;
@@ -192,7 +192,7 @@ fn hold_all(engine: &mut Engine, ids: &[ArrayId])
     ensures counts { (v : ℕ) →
         count_at engine.new.holds v ≡ count_at engine.old.holds v + times ids.now v }
 {
-    holding_laws();
+    hold_once_laws();
     for id in ids {
         engine.holds_law();
         engine.hold(*id);

@@ -11,7 +11,7 @@ ghost use Rattle.pdl_scope.specs.Room.{with_names};
 ghost use Rattle.pdl_scope.specs.Holding.{AreHeld, AreHeldBeside, IsHeldBeside, IsHeldForName, IsHeldWith, SameButHolds, StaysHeld, StaysHeldFor, LetsGo};
 ghost use Rattle.pdl_scope.specs.LetGo.{GoesOn};
 
-use crate::laws::{holding_laws, releasing_laws};
+use crate::laws::{hold_once_laws, releasing_laws};
 use crate::names::Names;
 use pdl_buf::Steps;
 use pdl_elem::Name;
@@ -93,7 +93,7 @@ pub(crate) fn hold_parent(engine: &mut Engine, leaving: &mut Vec<ArrayId>, id: A
     ensures count { length leaving.new.items ≤ length leaving.old.items + 1 }
     ensures room { vec_capacity leaving.old ≤ vec_capacity leaving.new }
 {
-    holding_laws();
+    hold_once_laws();
     engine.holds_law();
     if let Some(parent) = engine.parent(id) {
         engine.hold(parent);
@@ -124,7 +124,7 @@ pub(crate) fn bind_one(
     ensures count { length leaving.new.items ≤ length leaving.old.items + 1 }
     ensures room { vec_capacity leaving.old ≤ vec_capacity leaving.new }
 {
-    holding_laws();
+    hold_once_laws();
     engine.holds_law();
     hold_for_name(engine, leaving, id);
     let had = names.put(name, id);

@@ -44,7 +44,6 @@ pub fn cost_laws()
 /// What an array that comes leaves as it was, of the laws of the crates below, in one call. It does
 /// nothing when it runs.
 pub(crate) fn joining_laws()
-    ensures live { NewIsLive }
     ensures older { OlderStay }
     ensures older_elements { OlderElementsStay }
     ensures older_paths { OlderPathsStay }
@@ -61,7 +60,7 @@ pub(crate) fn joining_laws()
 
 /// What an assignment leaves as it was, and what follows it, of the laws of the crates below, in one
 /// call. It does nothing when it runs.
-pub(crate) fn assigning_laws()
+pub(crate) fn assign_elements_laws()
     ensures looks { LooksStay }
     ensures paths { PathsStay }
     ensures numbers { NumbersStay }
@@ -82,7 +81,7 @@ pub(crate) fn assigning_laws()
 
 /// What one more hold of an array does, of the laws of the crates below, in one call. It does nothing
 /// when it runs.
-pub(crate) fn holding_laws()
+pub(crate) fn hold_once_laws()
     ensures more { MoreKeepAll }
     ensures parents { ParentsAreLive }
     ensures counts { OneMoreCounts }
@@ -154,7 +153,7 @@ pub(crate) fn detaching_laws()
 
 /// What a cut leaves as it was, of the laws of the crates below, in one call. It does nothing when
 /// it runs.
-pub(crate) fn cutting_laws()
+pub(crate) fn cut_apart_laws()
     ensures shown { CutsLeaveElements }
     ensures others { CutsLeaveOthers }
     ensures uncut { RootsAreUncut }
@@ -169,7 +168,7 @@ pub(crate) fn cutting_laws()
 
 /// What a world whose arrays are written one after another shows, of the laws of the crates below, in
 /// one call. It does nothing when it runs.
-pub(crate) fn dumping_laws()
+pub(crate) fn write_arrays_laws()
     ensures below { LiveLieBelow }
     ensures live { NewIsLive }
     ensures older { OlderStay }

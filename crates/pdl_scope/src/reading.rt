@@ -97,8 +97,8 @@ impl Scope {
         Ok(Some(strided_get(&self.engine.lend(id), 0)))
     }
 
-    /// A new array like an array. A view that goes when the statement ends isn't brought up to date
-    /// for it where it has more elements than one block.
+    /// A new array like an array. A view that picks places, wasn't read and goes when the statement
+    /// ends isn't brought up to date for it where it has more elements than one block.
     pub fn copied<L: Ledger>(
         &mut self,
         id: ArrayId,

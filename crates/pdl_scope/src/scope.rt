@@ -26,7 +26,7 @@ use crate::flowing::let_all_go;
 use crate::flows::KeptFlow;
 use crate::holding::{bind_all, hold_for_name, note, note_some};
 use crate::kernels::{DefinedKernel, Kernels};
-use crate::laws::{holding_laws, joining_laws, leaving_laws};
+use crate::laws::{hold_once_laws, joining_laws, leaving_laws};
 use crate::names::Names;
 use pdl_buf::{Elements, Made, Steps};
 use pdl_elem::{Name, Ty};
@@ -241,7 +241,7 @@ impl Scope {
             Runs wanted self.old self.new [] [] result }
         ensures arrays { self.new.arrays ≡ self.old.arrays }
     {
-        holding_laws();
+        hold_once_laws();
         self.engine.holds_law();
         self.leaving.reserve(1)?;
         let had = self.names.bind(name, id)?;

@@ -21,7 +21,7 @@ use crate::fault::ScopeFault;
 use crate::flows::KeptFlow;
 use crate::following::{Change, find_change};
 use crate::holding::note_some;
-use crate::laws::{detaching_laws, holding_laws};
+use crate::laws::{detaching_laws, hold_once_laws};
 use crate::scope::Scope;
 use pdl_buf::Steps;
 use pdl_engine::{ArrayId, Engine};
@@ -50,7 +50,7 @@ impl Scope {
             let wanted = Ok (record (machine self.old) { watches = watches }, []) in
             Runs wanted self.old self.new [] [] result }
     {
-        holding_laws();
+        hold_once_laws();
         self.engine.holds_law();
         attach(&mut self.watches, slot, id)?;
         self.engine.hold(id);

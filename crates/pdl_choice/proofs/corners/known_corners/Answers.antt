@@ -3,7 +3,7 @@ use Rattle.std.proofs.Common.{◌∙◌, ◌*◌, ◌≤◌, ◌<◌, ℕ, List,
 use Rattle.std.proofs.lemmas.List.{with_items_is}
 use Rattle.std.proofs.lemmas.List.Elements.{All-replicate}
 use Rattle.pdl_shape.specs.Shape.{extent_limit}
-use Rattle.pdl_choice.specs.Rounds.{AreKnown, window_starts}
+use Rattle.pdl_choice.specs.Rounds.{AreCorners, window_starts}
 use Rattle.pdl_choice.proofs.InsidePlaces.{length-window_starts, window_start-below}
 use Rattle.pdl_choice.proofs.corners.known_corners.Goals as goal
 
@@ -27,5 +27,5 @@ pub returns-in-Some-clause-known : goal.returns-in-Some-clause-known
 returns-in-Some-clause-known c =
     let bases = with_items_is c.in_ok-bases.bases c.place_corners.new.bases (c.place_corners.auto.bases ∙ c.deref_mut.ensures.len) in
     let known = rw c.in-Some.is at c.in_ok-few.ensures in
-    subst (λ (bs : List ℕ). AreKnown c.args.parent.now (window_starts c.args.parent.now c.args.windows.now) c.args.ind.now bs c.in-Some.beyond.items) (sym bases)
-    (subst (λ (starts : List ℕ). AreKnown c.args.parent.now starts c.args.ind.now c.place_corners.new.bases c.in-Some.beyond.items) (c.deref.ensures.value ∙ c.in_ok-starts.ensures) known)
+    subst (λ (bs : List ℕ). AreCorners c.args.parent.now (window_starts c.args.parent.now c.args.windows.now) c.args.ind.now bs c.in-Some.beyond.items) (sym bases)
+    (subst (λ (starts : List ℕ). AreCorners c.args.parent.now starts c.args.ind.now c.place_corners.new.bases c.in-Some.beyond.items) (c.deref.ensures.value ∙ c.in_ok-starts.ensures) known)

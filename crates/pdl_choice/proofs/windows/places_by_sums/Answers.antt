@@ -1,9 +1,11 @@
 -- Each round adds the places of one position of the windows.
-use Rattle.std.proofs.Common.{◌≡◌, ◌⊎◌, ◌∙◌, ◌++◌, ◌+◌, ◌-◌, ◌*◌, ◌/◌, ◌%◌, ◌<◌, ℕ, zero, suc, List, ℤ, ap, sym, subst, arith, length, map, pos, refl, replicate, get_or, None, Some}
+use Rattle.std.proofs.Common.{◌≡◌, ◌⊎◌, ◌∙◌, ◌++◌, ◌+◌, ◌*◌, ◌/◌, ◌%◌, ◌<◌, ℕ, zero, suc, List, ℤ, ap, sym, subst, arith, length, map, pos, refl, replicate, get_or, None, Some}
 use Rattle.std.specs.List.{Any, range_with_len}
+use Rattle.std.specs.Prelude.{vec_len}
 use Rattle.std.specs.Option.{unwrap_or}
 use Rattle.std.proofs.lemmas.List.{with_items_is}
 use Rattle.pdl_shape.specs.Shape.{coordinates_of, size_of}
+use Rattle.pdl_choice.specs.declared.corners.Corners.{Corners}
 use Rattle.pdl_choice.specs.declared.edges.Edge.TheVariants.{Zero}
 use Rattle.pdl_choice.specs.Range.{inner_dims}
 use Rattle.pdl_choice.specs.Rounds.{CanPlaceAll, numbers_at, placed}
@@ -18,6 +20,10 @@ some_each : (count a b : ℕ) → count ≡ a * b → 0 < count → (0 < a) × (
 some_each count zero b is h = absurd (omega arith)
 some_each count (suc a) zero is h = absurd (omega arith)
 some_each count (suc a) (suc b) is h = (omega arith, omega arith)
+
+-- as many bases as corners
+corners_known : (known : Corners) (corners : ℕ) → vec_len known.bases ≡ corners → length known.bases.items ≡ corners
+corners_known known corners long = omega (arith, known.bases.ok, long)
 
 pub loop-round-init : goal.loop-round-init
 loop-round-init c = record {
@@ -49,7 +55,7 @@ push_round-requires-clause-whole c =
     let zeros : List ℤ = c.deref.result.now in
     let zeros_are : zeros ≡ replicate (length c.args.windows.now) (pos 0) = c.deref.ensures.value ∙ c.in_ok-zeros.ensures.items_if_clones_equal (λ y e. e) in
     let zeros_long : length zeros ≡ length c.args.windows.now = many_zeros zeros (length c.args.windows.now) zeros_are in
-    c.requires.whole ∙ ap (λ n. n * c.args.corners) (sym zeros_long) ∙ ap (λ n. length zeros * n) (sym c.requires.long)
+    c.requires.whole ∙ ap (λ n. n * c.args.corners) (sym zeros_long) ∙ ap (λ n. length zeros * n) (sym (corners_known c.args.known.now c.args.corners c.requires.long))
 
 pub push_round-requires-clause-numbers : goal.push_round-requires-clause-numbers
 push_round-requires-clause-numbers c =
@@ -94,9 +100,9 @@ push_round-requires-clause-inside c q h =
     let zeros : List ℤ = c.deref.result.now in
     let zeros_are : zeros ≡ replicate (length c.args.windows.now) (pos 0) = c.deref.ensures.value ∙ c.in_ok-zeros.ensures.items_if_clones_equal (λ y e. e) in
     let zeros_long : length zeros ≡ length c.args.windows.now = many_zeros zeros (length c.args.windows.now) zeros_are in
-    subst (λ (n : ℕ). Any (λ b. b ≡ q) c.args.beyond.now ⊎ Some (get_or c.args.bases.now q 0 + unwrap_or (placed Zero c.args.parent.now zeros at) 0) ≡ placed c.args.edge c.args.parent.now (numbers_at c.args.ind.now n q) at) (sym zeros_long)
-    (round_each c.args.edge c.args.parent.now c.args.windows.now c.args.ind.now zeros at c.args.bases.now c.args.beyond.now (length c.args.windows.now) here
-    (c.requires.whole ∙ ap (λ n. length c.args.windows.now * n) (sym c.requires.long)) zeros_are c.requires.known q h)
+    subst (λ (n : ℕ). Any (λ b. b ≡ q) c.args.known.now.beyond.items ⊎ Some (get_or c.args.known.now.bases.items q 0 + unwrap_or (placed Zero c.args.parent.now zeros at) 0) ≡ placed c.args.edge c.args.parent.now (numbers_at c.args.ind.now n q) at) (sym zeros_long)
+    (round_each c.args.edge c.args.parent.now c.args.windows.now c.args.ind.now zeros at c.args.known.now.bases.items c.args.known.now.beyond.items (length c.args.windows.now) here
+    (c.requires.whole ∙ ap (λ n. length c.args.windows.now * n) (sym (corners_known c.args.known.now c.args.corners c.requires.long))) zeros_are c.requires.known q h)
 
 pub move_on-requires : goal.move_on-requires
 move_on-requires c =
@@ -116,8 +122,8 @@ loop-round-preserved c =
     let zeros_long : length zeros ≡ length c.args.windows.now = many_zeros zeros (length c.args.windows.now) zeros_are in
     let added : c.push_round.new.places.items ≡ c.loop-round.places.items ++ map (λ q. placed c.args.edge c.args.parent.now (numbers_at c.args.ind.now (length c.args.windows.now) q) at) (range_with_len 0 c.args.corners) =
     c.in_ok-push_round.ensures
-    ∙ ap (λ (n : ℕ). c.loop-round.places.items ++ map (λ q. placed c.args.edge c.args.parent.now (numbers_at c.args.ind.now n q) at) (range_with_len 0 (length c.args.bases.now))) zeros_long
-    ∙ ap (λ (n : ℕ). c.loop-round.places.items ++ map (λ q. placed c.args.edge c.args.parent.now (numbers_at c.args.ind.now (length c.args.windows.now) q) at) (range_with_len 0 n)) c.requires.long in
+    ∙ ap (λ (n : ℕ). c.loop-round.places.items ++ map (λ q. placed c.args.edge c.args.parent.now (numbers_at c.args.ind.now n q) at) (range_with_len 0 (length c.args.known.now.bases.items))) zeros_long
+    ∙ ap (λ (n : ℕ). c.loop-round.places.items ++ map (λ q. placed c.args.edge c.args.parent.now (numbers_at c.args.ind.now (length c.args.windows.now) q) at) (range_with_len 0 n)) (corners_known c.args.known.now c.args.corners c.requires.long) in
     record {
       at = with_items_is c.loop-round.at c.move_on.new.coordinates (c.move_on.auto.coordinates ∙ c.deref_mut.ensures.len)
           ∙ round_moved c.shape_laws.ensures.positions c.args.parent.now c.args.windows.now c.deref-in-loop-round-2.result.now c.deref_mut.result.now c.move_on.new.coordinates c.loop-round._round c.requires.fit

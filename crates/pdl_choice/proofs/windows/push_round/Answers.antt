@@ -45,9 +45,11 @@ last_are old pl sums from is at =
     whole n xs h = take_all n xs h
 
 pub push_past-requires : goal.push_past-requires
-push_past-requires c k d h =
-    small_sum (get_or c.args.bases.now k d) c.past_first.result extent_limit (c.requires.small k d h)
-    (omega (arith, c.past_first.ensures.bound, c.shape_laws.ensures.sizes.size_within c.args.parent.now, c.requires.bounded)) (omega arith)
+push_past-requires c =
+    let past : ℕ = c.past_first.result in
+    let bound : past ≤ extent_limit = omega (arith, c.past_first.ensures.bound, c.shape_laws.ensures.sizes.size_within c.args.parent.now, c.requires.bounded) in
+    subst (λ (bs : List ℕ). All (λ (b : ℕ). b + past < 4294967296) bs) (sym c.as_slice-bases.ensures.value)
+    (λ k d h. small_sum (get_or c.args.known.now.bases.items k d) past extent_limit (c.requires.small k d h) bound (omega arith))
 
 pub returns : goal.returns
 returns c =
@@ -55,20 +57,24 @@ returns c =
     let old : List (Option ℕ) = c.args.places.now.items in
     let pl : List (Option ℕ) = c.deref_mut.result.now in
     let new : List (Option ℕ) = c.set_beyond.new.places in
-    let sums : List (Option ℕ) = map (λ (b : ℕ). Some (b + past)) c.args.bases.now in
+    let bases : List ℕ = c.args.known.now.bases.items in
+    let beyond : List ℕ = c.args.known.now.beyond.items in
+    let sums : List (Option ℕ) = map (λ (b : ℕ). Some (b + past)) bases in
     let place : ℕ → Option ℕ = λ q. placed c.args.edge c.args.parent.now (numbers_at c.args.ind.now (length c.args.zeros.now) q) c.args.at.now in
-    let is : pl ≡ old ++ sums = c.deref_mut.ensures.value ∙ c.in_ok-push_past.ensures in
+    let pushed : c.push_past.new.places.items ≡ old ++ sums = c.in_ok-push_past.ensures ∙ ap (λ (bs : List ℕ). old ++ map (λ (b : ℕ). Some (b + past)) bs) c.as_slice-bases.ensures.value in
+    let is : pl ≡ old ++ sums = c.deref_mut.ensures.value ∙ pushed in
     let at : c.len-from.result ≡ length old = omega (arith, c.len-from.ensures) in
     let part : take (length pl - c.len-from.result) (drop c.len-from.result pl) ≡ sums = last_are old pl sums c.len-from.result is at in
     let zeros : length c.args.at.now - 1 ≡ length c.args.zeros.now = omega (arith, c.requires.paired) in
-    let right : new ≡ map place (range_with_len 0 (length c.args.bases.now)) =
-    all_placed_right place new (take (length pl - c.len-from.result) (drop c.len-from.result pl)) c.args.bases.now c.args.beyond.now past part c.set_beyond.auto.places
-    (subst (λ (n : ℕ). All (λ q. get_or new q None ≡ placed c.args.edge c.args.parent.now (numbers_at c.args.ind.now n q) c.args.at.now) c.args.beyond.now) zeros c.set_beyond.ensures.set)
+    let right : new ≡ map place (range_with_len 0 (length bases)) =
+    all_placed_right place new (take (length pl - c.len-from.result) (drop c.len-from.result pl)) bases beyond past part c.set_beyond.auto.places
+    (subst (λ (n : ℕ). All (λ q. get_or new q None ≡ placed c.args.edge c.args.parent.now (numbers_at c.args.ind.now n q) c.args.at.now) beyond) zeros
+    (subst (λ (bs : List ℕ). All (λ q. get_or new q None ≡ placed c.args.edge c.args.parent.now (numbers_at c.args.ind.now (length c.args.at.now - 1) q) c.args.at.now) bs) c.as_slice-beyond.ensures.value c.set_beyond.ensures.set))
     (λ q. subst (λ (n : ℕ). get_or new q None ≡ placed c.args.edge c.args.parent.now (numbers_at c.args.ind.now n q) c.args.at.now ⊎ get_or new q None ≡ get_or (take (length pl - c.len-from.result) (drop c.len-from.result pl)) q None) zeros (c.set_beyond.ensures.others q))
-    (λ q h. subst (λ (n : ℕ). Any (λ b. b ≡ q) c.args.beyond.now ⊎ Some (get_or c.args.bases.now q 0 + n) ≡ place q) (sym c.past_first.ensures.past) (c.requires.inside q h)) in
+    (λ q h. subst (λ (n : ℕ). Any (λ b. b ≡ q) beyond ⊎ Some (get_or bases q 0 + n) ≡ place q) (sym c.past_first.ensures.past) (c.requires.inside q h)) in
     let same : length new ≡ length sums = c.set_beyond.auto.places ∙ ap length part in
     let last : take c.len-from.result pl ++ (new ++ post_of c.len-from.result (length pl - c.len-from.result) pl) ≡ old ++ new = last_set old pl sums new c.len-from.result is at same in
     with_items_is c.push_past.new.places (take c.len-from.result pl ++ (new ++ post_of c.len-from.result (length pl - c.len-from.result) pl))
-    (omega (arith, ap length last, length-append old new, length-append old sums, ap length c.in_ok-push_past.ensures, same, c.push_past.new.places.ok))
+    (omega (arith, ap length last, length-append old new, length-append old sums, ap length pushed, same, c.push_past.new.places.ok))
     ∙ last
     ∙ ap (λ (ps : List (Option ℕ)). old ++ ps) right

@@ -5,7 +5,7 @@ use Rattle.pdl_shape.specs.Limits.{checked_dims}
 use Rattle.pdl_shape.specs.Places.{places_of}
 use Rattle.pdl_choice.specs.declared.corners.Corners.{Corners}
 use Rattle.pdl_choice.specs.declared.edges.Edge.TheVariants.{Refuse}
-use Rattle.pdl_choice.specs.Rounds.{AreKnown, window_starts}
+use Rattle.pdl_choice.specs.Rounds.{AreCorners, window_starts}
 use Rattle.pdl_choice.specs.Range.{AllAllowed, first_refused, corner_len, inner_dims, windowed_dims, window_sizes, window_refusal, range_source}
 use Rattle.pdl_choice.proofs.InsidePlaces.{known_allowed}
 use Rattle.pdl_choice.proofs.RangeCorners.{window_places_are, corner_size}
@@ -14,7 +14,7 @@ use Rattle.pdl_choice.proofs.RangeDims.{range_dims-fit, checked_dims-back, check
 use Rattle.pdl_choice.proofs.windows.ranged.Goals as goal
 
 -- where none is known to reach beyond, no edge refuses a window
-inside_allowed : (o : Option Corners) (parent windows : List ℕ) (ind : List ℤ) (corners : ℕ) → length ind ≡ length windows * corners → IfSome o (λ k. vec_len k.bases ≡ corners) → IfSome o (λ k. AreKnown parent (window_starts parent windows) ind k.bases.items k.beyond.items)
+inside_allowed : (o : Option Corners) (parent windows : List ℕ) (ind : List ℤ) (corners : ℕ) → length ind ≡ length windows * corners → IfSome o (λ k. vec_len k.bases ≡ corners) → IfSome o (λ k. AreCorners parent (window_starts parent windows) ind k.bases.items k.beyond.items)
     → IsSome o → IfSome o (λ k. k.beyond.items ≡ []) → AllAllowed Refuse parent windows ind
 inside_allowed None parent windows ind corners whole long known some none = absurd (cc)
 inside_allowed (Some k) parent windows ind corners whole long known some none =

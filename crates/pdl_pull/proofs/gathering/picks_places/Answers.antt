@@ -8,5 +8,5 @@ use Rattle.pdl_pull.proofs.gathering.picks_places.Goals as goal
 
 pub returns : goal.returns
 returns c = λ t.
-    picked c.args.known.now c.args.shown.now c.args.own.now c.args.count (sym c.is_some.ensures ∙ c.if-is_some.false) (omega arith) (c.is_identity.ensures t)
+    picked c.args.known.now c.args.triple.now c.args.own.now c.args.count (sym c.is_some.ensures ∙ c.if-is_some.false) (omega arith) (c.shows_identity.ensures t)
     (subst (λ (n : ℕ). AllBelow n c.args.own.now) c.requires.shown (All-from_get_or (IsBelow c.args.size) c.args.own.now None (λ k h. c.requires.within k (omega arith))))

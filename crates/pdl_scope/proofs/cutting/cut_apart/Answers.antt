@@ -21,10 +21,10 @@ returns-clause-held g c = λ names ws fs held.
     let h = c.hold_parent.ensures.held names ws fs held in
     let P : World → Type 0 = λ w. IfSome (parent_in w v) (λ p. is_listed left p ≡ true) in
     let parent : P e.world = subst P (sym (ap (λ (s : Engine). s.world) c.hold_parent.ensures.same)) c.hold_parent.ensures.parent in
-    let laws : CutLaws = record { stay = c.cutting_laws.ensures.stay; shown = c.cutting_laws.ensures.shown; numbers = c.cutting_laws.ensures.numbers; others = c.cutting_laws.ensures.others; uncut = c.cutting_laws.ensures.uncut } in
-    held_after c.sever.result names ws fs e c.sever.new.self (sever e.world v) left h (c.cutting_laws.ensures.numbers e.world v h.whole.sound)
+    let laws : CutLaws = record { stay = c.cut_apart_laws.ensures.stay; shown = c.cut_apart_laws.ensures.shown; numbers = c.cut_apart_laws.ensures.numbers; others = c.cut_apart_laws.ensures.others; uncut = c.cut_apart_laws.ensures.uncut } in
+    held_after c.sever.result names ws fs e c.sever.new.self (sever e.world v) left h (c.cut_apart_laws.ensures.numbers e.world v h.whole.sound)
     (λ a is. flows_severed laws (arrays_of e) a v fs h.whole.sound is h.whole.flows)
-    (c.cutting_laws.ensures.keeps e.world v (held_by names ws fs ++ left) h.whole.sound h.reached (noted_held (held_by names ws fs) left (parent_in e.world v) parent))
+    (c.cut_apart_laws.ensures.keeps e.world v (held_by names ws fs ++ left) h.whole.sound h.reached (noted_held (held_by names ws fs) left (parent_in e.world v) parent))
     c.sever.ensures.ok c.sever.ensures.err c.sever.ensures.family.holds c.sever.ensures.family.next c.sever.ensures.sound
 
 pub returns-clause-counted : goal.returns-clause-counted

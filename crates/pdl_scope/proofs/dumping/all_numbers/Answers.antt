@@ -15,11 +15,11 @@ loop-next-init c =
 pub next_live-next-requires-in-Some : goal.next_live-next-requires-in-Some
 next_live-next-requires-in-Some c =
     let laws : Laws = record {
-      below = c.dumping_laws.ensures.below;
-      older = c.dumping_laws.ensures.older;
-      elements = c.dumping_laws.ensures.older_elements;
-      live = c.dumping_laws.ensures.live;
-      seen = c.dumping_laws.ensures.root_seen;
+      below = c.write_arrays_laws.ensures.below;
+      older = c.write_arrays_laws.ensures.older;
+      elements = c.write_arrays_laws.ensures.older_elements;
+      live = c.write_arrays_laws.ensures.live;
+      seen = c.write_arrays_laws.ensures.root_seen;
     } in
     listed_live laws c.args.engine.now.world (length c.loop-next.ids.items) c.in-Some.id c.requires
     (sym c.loop-next.invariant.next_is ∙ c.in-Some.is)

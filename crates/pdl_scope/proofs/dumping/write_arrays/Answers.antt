@@ -16,7 +16,7 @@ loop-at-init g c = record {
 
 pub returns-in_err-write_array-clause-lines : goal.returns-in_err-write_array-clause-lines
 returns-in_err-write_array-clause-lines g c =
-    next_refused c.lines_law.ensures c.dumping_laws.ensures.below c.args.engine.now.world c.loop-at.engine.world c.args.ids.now c.loop-at.at
+    next_refused c.lines_law.ensures c.write_arrays_laws.ensures.below c.args.engine.now.world c.loop-at.engine.world c.args.ids.now c.loop-at.at
     c.args.image.now c.loop-at.image c.write_array.new.image c.in_err-write_array.field-0.0 c.from_residual.result
     c.requires.sound c.requires.ids c.loop-at.invariant.same.world c.loop-at-test.true c.loop-at.invariant.lines c.in_err-write_array.ensures.lines c.from_residual.ensures.1
 
@@ -24,7 +24,7 @@ pub loop-at-preserved : goal.loop-at-preserved
 loop-at-preserved g c =
     let e = c.args.engine.now in
     let t = c.loop-at.engine in
-    let grown = c.dumping_laws.ensures in
+    let grown = c.write_arrays_laws.ensures in
     let laws : Laws = laws_of grown.below grown.older grown.older_elements grown.live grown.root_seen in
     record {
       same = record {
@@ -33,7 +33,7 @@ loop-at-preserved g c =
         next = c.write_array.ensures.same.next ∙ c.loop-at.invariant.same.next;
       };
       stay = λ v is. c.write_array.ensures.stay v (c.loop-at.invariant.stay v is);
-      lines = next_written c.lines_law.ensures c.dumping_laws.ensures.below c.args.engine.now.world c.loop-at.engine.world c.args.ids.now c.loop-at.at
+      lines = next_written c.lines_law.ensures c.write_arrays_laws.ensures.below c.args.engine.now.world c.loop-at.engine.world c.args.ids.now c.loop-at.at
           c.args.image.now c.loop-at.image c.write_array.new.image c.in_ok-write_array.field-0
           c.requires.sound c.requires.ids c.loop-at.invariant.same.world c.loop-at-test.true c.loop-at.invariant.lines c.in_ok-write_array.ensures.lines;
       costs = never_dearer e t c.write_array.new.engine c.loop-at.invariant.same c.loop-at.invariant.costs c.write_array.ensures.costs;
@@ -49,7 +49,7 @@ pub returns-in_err-write_array-clause-counted : goal.returns-in_err-write_array-
 returns-in_err-write_array-clause-counted g c =
     let e = c.args.engine.now in
     let i = c.loop-at.at in
-    let grown = c.dumping_laws.ensures in
+    let grown = c.write_arrays_laws.ensures in
     let laws : Laws = laws_of grown.below grown.older grown.older_elements grown.live grown.root_seen in
     dumped_first e e.world (i + 1) c.args.steps.now c.write_array.new.steps
     (dumped_more laws e c.loop-at.engine c.args.ids.now i c.args.steps.now c.loop-at.steps c.write_array.new.steps c.requires.sound c.requires.ids c.loop-at.invariant.same.world c.loop-at-test.true c.loop-at.invariant.costs c.loop-at.invariant.counted c.write_array.ensures.counted)

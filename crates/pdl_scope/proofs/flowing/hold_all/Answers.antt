@@ -33,5 +33,5 @@ loop-id-preserved c =
       same = c.hold.ensures ∙ ap (λ (e : Engine). record e { holds = one_more_at t.holds v }) c.loop-id.invariant.same
           ∙ ap (λ hs. record c.args.engine.now { holds = hs }) (sym (ap (λ (e : Engine). e.holds) c.hold.ensures));
       counts = λ u. (ap (λ (e : Engine). count_at e.holds u) c.hold.ensures
-          ∙ held_once_more c.holding_laws.ensures.counts t.holds (count_at c.args.engine.now.holds u) ids i u c.loop-id-test.true known (c.loop-id.invariant.counts u));
+          ∙ held_once_more c.hold_once_laws.ensures.counts t.holds (count_at c.args.engine.now.holds u) ids i u c.loop-id-test.true known (c.loop-id.invariant.counts u));
     }

@@ -22,4 +22,4 @@ returns-clause-held c = λ ws fs held.
     let N : Named ℕ → Type 0 = λ ns. IsHeldFor ns ws fs t (left ++ option_to_list (found names x)) in
     let L : List ℕ → Type 0 = λ vs. IsHeldFor c.put-had.new.self.entries ws fs t vs in
     subst L (sym (c.note_some.ensures.items ∙ ap (λ o. left ++ option_to_list o) c.put-had.ensures.given_up))
-    (subst N (sym c.put-had.ensures.names) (held_bound c.holding_laws.ensures.counts c.holding_laws.ensures.more names [] ws fs c.args.engine.now t x c.args.id c.args.leaving.now.items left c.holds_law.ensures.each held c.requires.live c.requires.few c.hold_for_name.ensures.held))
+    (subst N (sym c.put-had.ensures.names) (held_bound c.hold_once_laws.ensures.counts c.hold_once_laws.ensures.more names [] ws fs c.args.engine.now t x c.args.id c.args.leaving.now.items left c.holds_law.ensures.each held c.requires.live c.requires.few c.hold_for_name.ensures.held))

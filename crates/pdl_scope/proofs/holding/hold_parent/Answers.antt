@@ -9,7 +9,7 @@ use Rattle.pdl_scope.proofs.holding.hold_parent.Goals as goal
 
 pub hold-requires-clause-live : goal.hold-requires-clause-live
 hold-requires-clause-live c =
-    parent_lives c.holding_laws.ensures.parents c.args.engine.now.world c.args.id c.in-Some.parent c.requires.held.held.whole.sound (sym c.parent.ensures ∙ c.in-Some.is)
+    parent_lives c.hold_once_laws.ensures.parents c.args.engine.now.world c.args.id c.in-Some.parent c.requires.held.held.whole.sound (sym c.parent.ensures ∙ c.in-Some.is)
 
 pub hold-requires-clause-room : goal.hold-requires-clause-room
 hold-requires-clause-room c =
@@ -36,8 +36,8 @@ returns-in-Some-clause-held c = λ names ws fs held.
     let e = c.args.engine.now in
     let t = c.hold.new.self in
     let leaving = c.args.leaving.now.items in
-    let live = parent_lives c.holding_laws.ensures.parents e.world c.args.id p held.whole.sound (sym c.parent.ensures ∙ c.in-Some.is) in
+    let live = parent_lives c.hold_once_laws.ensures.parents e.world c.args.id p held.whole.sound (sym c.parent.ensures ∙ c.in-Some.is) in
     let E : Engine → Type 0 = λ y. IsHeld (state_in names ws fs y) y.holds (leaving ++ p ∷ []) in
     let L : List ℕ → Type 0 = λ vs. IsHeld (state_in names ws fs t) t.holds vs in
     subst L (sym c.note.ensures.items)
-    (subst E (sym c.hold.ensures) (held_noted c.holding_laws.ensures.counts c.holding_laws.ensures.more names ws fs e p leaving c.holds_law.ensures.each held live))
+    (subst E (sym c.hold.ensures) (held_noted c.hold_once_laws.ensures.counts c.hold_once_laws.ensures.more names ws fs e p leaving c.holds_law.ensures.each held live))

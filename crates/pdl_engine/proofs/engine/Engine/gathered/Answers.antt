@@ -22,11 +22,11 @@ use Rattle.pdl_engine.proofs.StateOfWorlds.{fresh_is, holds_alike, live_has, roo
 use Rattle.pdl_engine.proofs.TypedResults.{made_of}
 use Rattle.pdl_engine.proofs.engine.Engine.gathered.Goals as goal
 
-pub gather-requires-clause-live : goal.gather-requires-clause-live
-gather-requires-clause-live g c = live_has c.row_laws.ensures c.self.inside.table c.args.id (subst (λ (s : State). IsLive s.world c.args.id) (sym c.self.view_is) c.requires.live)
+pub gathered-requires-clause-live : goal.gathered-requires-clause-live
+gathered-requires-clause-live g c = live_has c.row_laws.ensures c.self.inside.table c.args.id (subst (λ (s : State). IsLive s.world c.args.id) (sym c.self.view_is) c.requires.live)
 
-pub gather-requires-clause-unmarked : goal.gather-requires-clause-unmarked
-gather-requires-clause-unmarked g c =
+pub gathered-requires-clause-unmarked : goal.gathered-requires-clause-unmarked
+gathered-requires-clause-unmarked g c =
     let t = c.self.inside.table in
     let v = c.args.id in
     let facts = c.row_laws.ensures in
@@ -40,8 +40,8 @@ gather-requires-clause-unmarked g c =
 
 pub invariant_of-self : goal.invariant_of-self
 invariant_of-self g c = (
-  ready_engine c.row_laws.ensures c.self.inside.table c.gather.new.table c.self.inside.holds c.self.inside.next c.self.invariant.0 c.gather.ensures.ready,
-  tight_alike c.self.inside.loose.items c.self.inside.table c.gather.new.table c.self.inside.holds c.gather.ensures.ready.alike c.self.invariant.1,
+  ready_engine c.row_laws.ensures c.self.inside.table c.gathered.new.table c.self.inside.holds c.self.inside.next c.self.invariant.0 c.gathered.ensures.ready,
+  tight_alike c.self.inside.loose.items c.self.inside.table c.gathered.new.table c.self.inside.holds c.gathered.ensures.ready.alike c.self.invariant.1,
 )
 
 pub returns-clause-value : goal.returns-clause-value
@@ -49,42 +49,42 @@ returns-clause-value g c =
     let t = c.self.inside.table in
     let v = c.args.id in
     let h : has t v ≡ true = live_has c.row_laws.ensures t v (subst (λ (s : State). IsLive s.world v) (sym c.self.view_is) c.requires.live) in
-    made_of c.gather.result _ _ _ _ (sym (c.row_laws.ensures.seen.ty_are t v c.self.invariant.0.order.still h) ∙ ap (λ (s : State). ty_in s.world v) c.self.view_is)
-    (ap (λ (s : State). elements s.world v) c.self.view_is) c.gather.ensures.value
+    made_of c.gathered.result _ _ _ _ (sym (c.row_laws.ensures.seen.ty_are t v c.self.invariant.0.order.still h) ∙ ap (λ (s : State). ty_in s.world v) c.self.view_is)
+    (ap (λ (s : State). elements s.world v) c.self.view_is) c.gathered.ensures.value
 
 pub returns-clause-count : goal.returns-clause-count
 returns-clause-count g c =
     let t = c.self.inside.table in
     let v = c.args.id in
     let h : has t v ≡ true = live_has c.row_laws.ensures t v (subst (λ (s : State). IsLive s.world v) (sym c.self.view_is) c.requires.live) in
-    IfOk-weaker c.gather.result _ _ (λ (b : TypedElements) e. ap (λ (k : TypedElements). length k.elems) e ∙ elements_count c.row_laws.ensures t v c.self.invariant.0.order.still h
-    ∙ ap size_of (sym (c.row_laws.ensures.seen.dims_are t v c.self.invariant.0.order.still h) ∙ ap (λ (s : State). dims_in s.world v) c.self.view_is)) c.gather.ensures.value
+    IfOk-weaker c.gathered.result _ _ (λ (b : TypedElements) e. ap (λ (k : TypedElements). length k.elems) e ∙ elements_count c.row_laws.ensures t v c.self.invariant.0.order.still h
+    ∙ ap size_of (sym (c.row_laws.ensures.seen.dims_are t v c.self.invariant.0.order.still h) ∙ ap (λ (s : State). dims_in s.world v) c.self.view_is)) c.gathered.ensures.value
 
 pub returns-clause-same : goal.returns-clause-same
 returns-clause-same g c = record {
-  world = c.gather.ensures.ready.world ∙ ap (λ (s : State). s.world) c.self.view_is;
-  holds = holds_alike c.self.inside.table c.gather.new.table c.self.inside.holds c.gather.ensures.ready.alike.numbers_are ∙ ap (λ (s : State). s.holds) c.self.view_is;
+  world = c.gathered.ensures.ready.world ∙ ap (λ (s : State). s.world) c.self.view_is;
+  holds = holds_alike c.self.inside.table c.gathered.new.table c.self.inside.holds c.gathered.ensures.ready.alike.numbers_are ∙ ap (λ (s : State). s.holds) c.self.view_is;
   next = ap (λ (s : State). s.next) c.self.view_is;
 }
 
 pub returns-clause-stay : goal.returns-clause-stay
 returns-clause-stay g c =
-    subst (λ (s : State). StayFresh s (state_of c.gather.new.table c.self.inside.holds c.self.inside.next)) c.self.view_is
-    (stay_ready c.row_laws.ensures c.self.inside.table c.gather.new.table c.self.inside.holds c.self.inside.next c.self.invariant.0.order.still c.gather.ensures.ready.order.still c.gather.ensures.ready.alike c.gather.ensures.ready.marks)
+    subst (λ (s : State). StayFresh s (state_of c.gathered.new.table c.self.inside.holds c.self.inside.next)) c.self.view_is
+    (stay_ready c.row_laws.ensures c.self.inside.table c.gathered.new.table c.self.inside.holds c.self.inside.next c.self.invariant.0.order.still c.gathered.ensures.ready.order.still c.gathered.ensures.ready.alike c.gathered.ensures.ready.marks)
 
 pub returns-clause-settled : goal.returns-clause-settled
 returns-clause-settled g c =
-    waiting_is c.row_laws.ensures c.gather.new.table c.self.inside.holds c.self.inside.next c.args.id c.gather.ensures.ready.order.still
-    (c.gather.ensures.ready.alike.has_is c.args.id ∙ live_has c.row_laws.ensures c.self.inside.table c.args.id (subst (λ (s : State). IsLive s.world c.args.id) (sym c.self.view_is) c.requires.live)) ∙ c.gather.ensures.settled
+    waiting_is c.row_laws.ensures c.gathered.new.table c.self.inside.holds c.self.inside.next c.args.id c.gathered.ensures.ready.order.still
+    (c.gathered.ensures.ready.alike.has_is c.args.id ∙ live_has c.row_laws.ensures c.self.inside.table c.args.id (subst (λ (s : State). IsLive s.world c.args.id) (sym c.self.view_is) c.requires.live)) ∙ c.gathered.ensures.settled
 
 pub returns-clause-others : goal.returns-clause-others
-returns-clause-others g c = subst (λ (s : State). OthersWait s c.args.id (state_of c.gather.new.table c.self.inside.holds c.self.inside.next)) c.self.view_is
-    (others_wait c.row_laws.ensures c.self.inside.table c.gather.new.table c.self.inside.holds c.self.inside.holds c.self.inside.next c.self.inside.next c.args.id c.self.invariant.0.order.still c.gather.ensures.ready.order.still
-    (live_has c.row_laws.ensures c.self.inside.table c.args.id (subst (λ (s : State). IsLive s.world c.args.id) (sym c.self.view_is) c.requires.live)) c.gather.ensures.ready.alike c.gather.ensures.others)
+returns-clause-others g c = subst (λ (s : State). OthersWait s c.args.id (state_of c.gathered.new.table c.self.inside.holds c.self.inside.next)) c.self.view_is
+    (others_wait c.row_laws.ensures c.self.inside.table c.gathered.new.table c.self.inside.holds c.self.inside.holds c.self.inside.next c.self.inside.next c.args.id c.self.invariant.0.order.still c.gathered.ensures.ready.order.still
+    (live_has c.row_laws.ensures c.self.inside.table c.args.id (subst (λ (s : State). IsLive s.world c.args.id) (sym c.self.view_is) c.requires.live)) c.gathered.ensures.ready.alike c.gathered.ensures.others)
 
 pub returns-clause-counted : goal.returns-clause-counted
 returns-clause-counted g c =
     let h : has c.self.inside.table c.args.id ≡ true = live_has c.row_laws.ensures c.self.inside.table c.args.id (subst (λ (s : State). IsLive s.world c.args.id) (sym c.self.view_is) c.requires.live) in
     let a : rows_outdated c.self.inside.table c.args.id + rows_waiting_size c.self.inside.table (waiting_of c.self.inside.table c.args.id) ≡ outdated c.args.self.now c.args.id + waiting_size c.args.self.now (waiting c.args.self.now c.args.id) =
     steps_are c.row_laws.ensures c.self.inside.table c.self.inside.holds c.self.inside.next c.args.id c.self.invariant.0 h ∙ ap (λ (s : State). outdated s c.args.id + waiting_size s (waiting s c.args.id)) c.self.view_is in
-    omega (arith, a, c.gather.ensures.counted)
+    omega (arith, a, c.gathered.ensures.counted)

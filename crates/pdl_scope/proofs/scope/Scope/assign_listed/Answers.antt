@@ -21,13 +21,13 @@ use Rattle.pdl_scope.proofs.scope.Scope.assign_listed.Goals as goal
 pub invariant_of-self-2 : goal.invariant_of-self-2
 invariant_of-self-2 g c =
     let laws : Laws = record {
-      plans = record { looks = c.assigning_laws.ensures.looks; reads = c.assigning_laws.ensures.reads; wholes = c.assigning_laws.ensures.wholes; others = c.assigning_laws.ensures.others };
-      paths = c.assigning_laws.ensures.paths;
-      numbers = c.assigning_laws.ensures.numbers;
-      sound = c.assigning_laws.ensures.sound;
-      keeps = c.assigning_laws.ensures.keeps;
-      follow = c.assigning_laws.ensures.follow;
-      only = c.assigning_laws.ensures.affected;
+      plans = record { looks = c.assign_elements_laws.ensures.looks; reads = c.assign_elements_laws.ensures.reads; wholes = c.assign_elements_laws.ensures.wholes; others = c.assign_elements_laws.ensures.others };
+      paths = c.assign_elements_laws.ensures.paths;
+      numbers = c.assign_elements_laws.ensures.numbers;
+      sound = c.assign_elements_laws.ensures.sound;
+      keeps = c.assign_elements_laws.ensures.keeps;
+      follow = c.assign_elements_laws.ensures.follow;
+      only = c.assign_elements_laws.ensures.affected;
     } in
     let names = names_in c.self.inside.names.entries c.self.inside.kernels in
     let ws = c.self.inside.watches.items in
@@ -42,20 +42,20 @@ invariant_of-self-2 g c =
     let vs = c.deref.result.now in
     let held : IsHeld (state_in names ws fs t) t.holds leaving = held_readied names ws fs e t leaving c.written-found.ensures.same c.self.invariant in
     let is = alone_followed laws names ws fs t n v vs held.whole c.assign.ensures.world c.assign.ensures.next c.assign.ensures.sound none alone in
-    held_assigned c.assigning_laws.ensures.keeps names ws fs t n v vs leaving held c.assign.ensures.world c.assign.ensures.holds
-    (whole_assigned c.assigning_laws.ensures.looks c.assigning_laws.ensures.numbers names ws fs t n v vs held.whole c.assign.ensures.world c.assign.ensures.next c.assign.ensures.sound
+    held_assigned c.assign_elements_laws.ensures.keeps names ws fs t n v vs leaving held c.assign.ensures.world c.assign.ensures.holds
+    (whole_assigned c.assign_elements_laws.ensures.looks c.assign_elements_laws.ensures.numbers names ws fs t n v vs held.whole c.assign.ensures.world c.assign.ensures.next c.assign.ensures.sound
     (flows_after laws names ws fs t n v vs held.whole (subst IsSound c.assign.ensures.world c.assign.ensures.sound) is))
 
 pub returns-clause-runs : goal.returns-clause-runs
 returns-clause-runs g c =
     let laws : Laws = record {
-      plans = record { looks = c.assigning_laws.ensures.looks; reads = c.assigning_laws.ensures.reads; wholes = c.assigning_laws.ensures.wholes; others = c.assigning_laws.ensures.others };
-      paths = c.assigning_laws.ensures.paths;
-      numbers = c.assigning_laws.ensures.numbers;
-      sound = c.assigning_laws.ensures.sound;
-      keeps = c.assigning_laws.ensures.keeps;
-      follow = c.assigning_laws.ensures.follow;
-      only = c.assigning_laws.ensures.affected;
+      plans = record { looks = c.assign_elements_laws.ensures.looks; reads = c.assign_elements_laws.ensures.reads; wholes = c.assign_elements_laws.ensures.wholes; others = c.assign_elements_laws.ensures.others };
+      paths = c.assign_elements_laws.ensures.paths;
+      numbers = c.assign_elements_laws.ensures.numbers;
+      sound = c.assign_elements_laws.ensures.sound;
+      keeps = c.assign_elements_laws.ensures.keeps;
+      follow = c.assign_elements_laws.ensures.follow;
+      only = c.assign_elements_laws.ensures.affected;
     } in
     let names = names_in c.self.inside.names.entries c.self.inside.kernels in
     let ws = c.self.inside.watches.items in
@@ -82,7 +82,7 @@ returns-clause-views g c =
     let P : Seen → Type 0 = λ s. KeepsViews c.assign.new.self.world s.arrays.world in
     subst P c.self.view_is (λ v is.
     read_views e t c.written-found.ensures.same v
-    (written_views c.assigning_laws.ensures.looks t.world c.assign.new.self.world c.args.target c.deref.result.now c.assign.ensures.world v is))
+    (written_views c.assign_elements_laws.ensures.looks t.world c.assign.new.self.world c.args.target c.deref.result.now c.assign.ensures.world v is))
 
 pub returns-clause-warm : goal.returns-clause-warm
 returns-clause-warm g c =
@@ -90,7 +90,7 @@ returns-clause-warm g c =
     let P : Seen → Type 0 = λ s. IsLive s.arrays.world c.args.target in
     let live : IsLive c.self.inside.engine.world c.args.target = subst P (sym c.self.view_is) c.requires.target in
     let there : IsLive t.world c.args.target = subst (λ w. IsLive w c.args.target) (sym c.written-found.ensures.same.world) live in
-    warmed c.assigning_laws.ensures.bases t c.assign.new.self c.args.target c.deref.result.now there c.assign.ensures.world c.assign.ensures.target
+    warmed c.assign_elements_laws.ensures.bases t c.assign.new.self c.args.target c.deref.result.now there c.assign.ensures.world c.assign.ensures.target
 
 pub returns-clause-counted : goal.returns-clause-counted
 returns-clause-counted g c =

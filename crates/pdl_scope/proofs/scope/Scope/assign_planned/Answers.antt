@@ -64,13 +64,13 @@ assign_all-requires-clause-can g c =
 pub invariant_of-self-2 : goal.invariant_of-self-2
 invariant_of-self-2 g c =
     let laws : Laws = record {
-      plans = record { looks = c.assigning_laws.ensures.looks; reads = c.assigning_laws.ensures.reads; wholes = c.assigning_laws.ensures.wholes; others = c.assigning_laws.ensures.others };
-      paths = c.assigning_laws.ensures.paths;
-      numbers = c.assigning_laws.ensures.numbers;
-      sound = c.assigning_laws.ensures.sound;
-      keeps = c.assigning_laws.ensures.keeps;
-      follow = c.assigning_laws.ensures.follow;
-      only = c.assigning_laws.ensures.affected;
+      plans = record { looks = c.assign_elements_laws.ensures.looks; reads = c.assign_elements_laws.ensures.reads; wholes = c.assign_elements_laws.ensures.wholes; others = c.assign_elements_laws.ensures.others };
+      paths = c.assign_elements_laws.ensures.paths;
+      numbers = c.assign_elements_laws.ensures.numbers;
+      sound = c.assign_elements_laws.ensures.sound;
+      keeps = c.assign_elements_laws.ensures.keeps;
+      follow = c.assign_elements_laws.ensures.follow;
+      only = c.assign_elements_laws.ensures.affected;
     } in
     let names = names_in c.self.inside.names.entries c.self.inside.kernels in
     let ws = c.self.inside.watches.items in
@@ -85,7 +85,7 @@ invariant_of-self-2 g c =
     let held : IsHeld (state_in names ws fs t) t.holds leaving = held_readied names ws fs e t leaving c.written-found.ensures.same c.self.invariant in
     let plan : IsPlan t fs v vs c.planned.new.engine cs = subst (λ (gs : Flows). IsPlan t gs v vs c.planned.new.engine cs) c.deref-2.ensures.value c.in_ok-plan.ensures.plan in
     let none : is_flow fs (root_of t.world v) ≡ false = ap (λ (w : World). is_flow fs (root_of w v)) c.written-found.ensures.same.world ∙ subst (λ (s : Seen). is_flow s.flows (root_of s.arrays.world v) ≡ false) (sym c.self.view_is) c.requires.unflowed in
-    let sound : IsSound (assign t.world v vs) = c.assigning_laws.ensures.sound t.world v vs held.whole.sound c.in-Ok.ensures.made.in_range in
+    let sound : IsSound (assign t.world v vs) = c.assign_elements_laws.ensures.sound t.world v vs held.whole.sound c.in-Ok.ensures.made.in_range in
     let world : n.world ≡ all_assigned t.world cs = c.assign_all.ensures.world ∙ ap (λ (w : World). all_assigned w cs) (c.foreseen.ensures.same.world ∙ c.planned.ensures.same.world) in
     let holds : n.holds ≡ t.holds = c.assign_all.ensures.holds ∙ c.foreseen.ensures.same.holds ∙ c.planned.ensures.same.holds in
     let next : n.next ≡ t.next = c.assign_all.ensures.next ∙ c.foreseen.ensures.same.next ∙ c.planned.ensures.same.next in
@@ -95,13 +95,13 @@ invariant_of-self-2 g c =
 pub returns-clause-runs : goal.returns-clause-runs
 returns-clause-runs g c =
     let laws : Laws = record {
-      plans = record { looks = c.assigning_laws.ensures.looks; reads = c.assigning_laws.ensures.reads; wholes = c.assigning_laws.ensures.wholes; others = c.assigning_laws.ensures.others };
-      paths = c.assigning_laws.ensures.paths;
-      numbers = c.assigning_laws.ensures.numbers;
-      sound = c.assigning_laws.ensures.sound;
-      keeps = c.assigning_laws.ensures.keeps;
-      follow = c.assigning_laws.ensures.follow;
-      only = c.assigning_laws.ensures.affected;
+      plans = record { looks = c.assign_elements_laws.ensures.looks; reads = c.assign_elements_laws.ensures.reads; wholes = c.assign_elements_laws.ensures.wholes; others = c.assign_elements_laws.ensures.others };
+      paths = c.assign_elements_laws.ensures.paths;
+      numbers = c.assign_elements_laws.ensures.numbers;
+      sound = c.assign_elements_laws.ensures.sound;
+      keeps = c.assign_elements_laws.ensures.keeps;
+      follow = c.assign_elements_laws.ensures.follow;
+      only = c.assign_elements_laws.ensures.affected;
     } in
     let names = names_in c.self.inside.names.entries c.self.inside.kernels in
     let ws = c.self.inside.watches.items in
@@ -116,7 +116,7 @@ returns-clause-runs g c =
     let held : IsHeld (state_in names ws fs t) t.holds leaving = held_readied names ws fs e t leaving c.written-found.ensures.same c.self.invariant in
     let plan : IsPlan t fs v vs c.planned.new.engine cs = subst (λ (gs : Flows). IsPlan t gs v vs c.planned.new.engine cs) c.deref-2.ensures.value c.in_ok-plan.ensures.plan in
     let none : is_flow fs (root_of t.world v) ≡ false = ap (λ (w : World). is_flow fs (root_of w v)) c.written-found.ensures.same.world ∙ subst (λ (s : Seen). is_flow s.flows (root_of s.arrays.world v) ≡ false) (sym c.self.view_is) c.requires.unflowed in
-    let sound : IsSound (assign t.world v vs) = c.assigning_laws.ensures.sound t.world v vs held.whole.sound c.in-Ok.ensures.made.in_range in
+    let sound : IsSound (assign t.world v vs) = c.assign_elements_laws.ensures.sound t.world v vs held.whole.sound c.in-Ok.ensures.made.in_range in
     let world : n.world ≡ all_assigned t.world cs = c.assign_all.ensures.world ∙ ap (λ (w : World). all_assigned w cs) (c.foreseen.ensures.same.world ∙ c.planned.ensures.same.world) in
     let holds : n.holds ≡ t.holds = c.assign_all.ensures.holds ∙ c.foreseen.ensures.same.holds ∙ c.planned.ensures.same.holds in
     let next : n.next ≡ t.next = c.assign_all.ensures.next ∙ c.foreseen.ensures.same.next ∙ c.planned.ensures.same.next in
@@ -134,7 +134,7 @@ returns-clause-views g c =
     let P : Seen → Type 0 = λ s. KeepsViews c.assign_all.new.engine.world s.arrays.world in
     subst P c.self.view_is (λ v is.
     read_views e t c.written-found.ensures.same v (read_views t p c.planned.ensures.same v (read_views p late c.foreseen.ensures.same v
-    (planned_views c.assigning_laws.ensures.looks late.world c.assign_all.new.engine.world c.in_ok-plan.plan.items c.assign_all.ensures.world v is))))
+    (planned_views c.assign_elements_laws.ensures.looks late.world c.assign_all.new.engine.world c.in_ok-plan.plan.items c.assign_all.ensures.world v is))))
 
 pub returns-in-Err-clause-counted : goal.returns-in-Err-clause-counted
 returns-in-Err-clause-counted g c =

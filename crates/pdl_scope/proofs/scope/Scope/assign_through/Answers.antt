@@ -15,13 +15,13 @@ use Rattle.pdl_scope.proofs.scope.Scope.assign_through.Goals as goal
 pub invariant_of-self-2 : goal.invariant_of-self-2
 invariant_of-self-2 g c =
     let laws : Laws = record {
-      plans = record { looks = c.assigning_laws.ensures.looks; reads = c.assigning_laws.ensures.reads; wholes = c.assigning_laws.ensures.wholes; others = c.assigning_laws.ensures.others };
-      paths = c.assigning_laws.ensures.paths;
-      numbers = c.assigning_laws.ensures.numbers;
-      sound = c.assigning_laws.ensures.sound;
-      keeps = c.assigning_laws.ensures.keeps;
-      follow = c.assigning_laws.ensures.follow;
-      only = c.assigning_laws.ensures.affected;
+      plans = record { looks = c.assign_elements_laws.ensures.looks; reads = c.assign_elements_laws.ensures.reads; wholes = c.assign_elements_laws.ensures.wholes; others = c.assign_elements_laws.ensures.others };
+      paths = c.assign_elements_laws.ensures.paths;
+      numbers = c.assign_elements_laws.ensures.numbers;
+      sound = c.assign_elements_laws.ensures.sound;
+      keeps = c.assign_elements_laws.ensures.keeps;
+      follow = c.assign_elements_laws.ensures.follow;
+      only = c.assign_elements_laws.ensures.affected;
     } in
     let names = names_in c.self.inside.names.entries c.self.inside.kernels in
     let ws = c.self.inside.watches.items in
@@ -35,13 +35,13 @@ invariant_of-self-2 g c =
 pub returns-clause-runs : goal.returns-clause-runs
 returns-clause-runs g c =
     let laws : Laws = record {
-      plans = record { looks = c.assigning_laws.ensures.looks; reads = c.assigning_laws.ensures.reads; wholes = c.assigning_laws.ensures.wholes; others = c.assigning_laws.ensures.others };
-      paths = c.assigning_laws.ensures.paths;
-      numbers = c.assigning_laws.ensures.numbers;
-      sound = c.assigning_laws.ensures.sound;
-      keeps = c.assigning_laws.ensures.keeps;
-      follow = c.assigning_laws.ensures.follow;
-      only = c.assigning_laws.ensures.affected;
+      plans = record { looks = c.assign_elements_laws.ensures.looks; reads = c.assign_elements_laws.ensures.reads; wholes = c.assign_elements_laws.ensures.wholes; others = c.assign_elements_laws.ensures.others };
+      paths = c.assign_elements_laws.ensures.paths;
+      numbers = c.assign_elements_laws.ensures.numbers;
+      sound = c.assign_elements_laws.ensures.sound;
+      keeps = c.assign_elements_laws.ensures.keeps;
+      follow = c.assign_elements_laws.ensures.follow;
+      only = c.assign_elements_laws.ensures.affected;
     } in
     let names = names_in c.self.inside.names.entries c.self.inside.kernels in
     let ws = c.self.inside.watches.items in

@@ -34,4 +34,4 @@ invariant_of-self-2 c =
     let N : Named ℕ → Type 0 = λ ns. IsHeld (state_in (names_in ns ks) ws fs t) t.holds (left ++ option_to_list (found names x)) in
     let L : List ℕ → Type 0 = λ vs. IsHeld (state_in (names_in c.bind.new.self.entries ks) ws fs t) t.holds vs in
     subst L (sym (c.note_some.ensures.items ∙ ap (λ o. left ++ option_to_list o) c.in_ok-had.ensures.given_up))
-    (subst N (sym is) (held_bound c.holding_laws.ensures.counts c.holding_laws.ensures.more names ks ws fs e t x v c.self.inside.leaving.items left c.holds_law.ensures.each c.self.invariant live few (subst W c.in_ok-reserve.ensures.items c.hold_for_name.ensures.held)))
+    (subst N (sym is) (held_bound c.hold_once_laws.ensures.counts c.hold_once_laws.ensures.more names ks ws fs e t x v c.self.inside.leaving.items left c.holds_law.ensures.each c.self.invariant live few (subst W c.in_ok-reserve.ensures.items c.hold_for_name.ensures.held)))

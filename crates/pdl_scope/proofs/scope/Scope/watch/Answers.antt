@@ -25,6 +25,6 @@ invariant_of-self-2 c =
     let P : Seen → Type 0 = λ s. watch_of s.watches k ≡ None in
     let S : Seen → Type 0 = λ s. IsLive s.arrays.world v in
     let E : Engine → Type 0 = λ y. IsHeld (state_in names c.attach.new.watches.items fs y) y.holds leaving in
-    let held = held_attached c.holding_laws.ensures.counts c.holding_laws.ensures.more names ws fs e k v leaving c.holds_law.ensures.each c.self.invariant (subst S (sym c.self.view_is) c.requires.live) c.requires.small (subst P (sym c.self.view_is) c.requires.free) in
+    let held = held_attached c.hold_once_laws.ensures.counts c.hold_once_laws.ensures.more names ws fs e k v leaving c.holds_law.ensures.each c.self.invariant (subst S (sym c.self.view_is) c.requires.live) c.requires.small (subst P (sym c.self.view_is) c.requires.free) in
     let X : Watches → Type 0 = λ us. IsHeld (state_in names us fs (record e { holds = one_more_at e.holds v })) (one_more_at e.holds v) leaving in
     subst E (sym c.hold.ensures) (subst X (sym c.in_ok-attach.ensures.ok) held)

@@ -4,7 +4,7 @@ use Rattle.std.specs.Prelude.{Option}
 use Rattle.std.proofs.lemmas.List.{take_all}
 use Rattle.pdl_shape.specs.Places.{read}
 use Rattle.pdl_numbers.proofs.PlaceLists.{read_part_more}
-use Rattle.pdl_numbers.proofs.packed.Packed.gathered.Goals as goal
+use Rattle.pdl_numbers.proofs.packed.Packed.many_gathered.Goals as goal
 
 pub loop-done-init : goal.loop-done-init
 loop-done-init g c = c.in_ok-packed.ensures

@@ -1,7 +1,7 @@
 -- The numbers at the places before the next block are fetched.
 use Rattle.std.proofs.Common.{◌≡◌, ◌-◌, length, take}
 use Rattle.pdl_shape.specs.Places.{read}
-use Rattle.pdl_numbers.proofs.packed.Packed.gathered.Given as goal
+use Rattle.pdl_numbers.proofs.packed.Packed.many_gathered.Given as goal
 
 abbrev pub invariant-loop-done : goal.invariant-loop-done
 invariant-loop-done g l = l.packed ≡ read (take l.done l.places) l.self

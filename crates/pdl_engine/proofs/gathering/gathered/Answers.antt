@@ -7,7 +7,7 @@ use Rattle.pdl_pull.specs.Outdated.{outdated}
 use Rattle.pdl_engine.proofs.SeveredReadied.{less_path, others_on, ready_then}
 use Rattle.pdl_engine.proofs.ThroughParts.{itself_outdated, less_above}
 use Rattle.pdl_engine.proofs.TypedResults.{made_of}
-use Rattle.pdl_engine.proofs.gathering.gather.Goals as goal
+use Rattle.pdl_engine.proofs.gathering.gathered.Goals as goal
 
 pub find-requires-clause-order : goal.find-requires-clause-order
 find-requires-clause-order g c = c.settle.ensures.settled.ready.order

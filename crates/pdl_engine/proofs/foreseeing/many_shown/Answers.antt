@@ -4,8 +4,7 @@ use Rattle.std.proofs.lemmas.List.{length-append, length-take, length-drop}
 use Rattle.std.proofs.lemmas.List.Elements.{All-append}
 use Rattle.std.proofs.Math.Seq.{take-add}
 use Rattle.pdl_elem.specs.Types.{InRange}
-use Rattle.pdl_shape.specs.Shape.{size_of}
-use Rattle.pdl_engine.proofs.foreseeing.all_shown.Goals as goal
+use Rattle.pdl_engine.proofs.foreseeing.many_shown.Goals as goal
 
 pub loop-numbers-preserved : goal.loop-numbers-preserved
 loop-numbers-preserved c =
@@ -14,11 +13,11 @@ loop-numbers-preserved c =
     let m : ℕ = c.min-more.result in
     let next : List ℤ = take m (drop k xs) in
     let added : c.read_more.new.numbers.items ≡ c.loop-numbers.numbers.items ++ next = c.in_ok-read_more.ensures.items in
-    let within : k + m ≤ length xs = omega (arith, c.strided_dims.ensures.count, ap size_of c.strided_dims.ensures.dims, c.elements_of-count.ensures.count) in
+    let within : k + m ≤ length xs = omega (arith, c.requires.counted) in
     let many : length next ≡ m = simp (length-take, length-drop) (omega arith) in
     let long : length c.read_more.new.numbers.items ≡ k + m = ap length added ∙ length-append c.loop-numbers.numbers.items next ∙ ap (λ (n : ℕ). k + n) many in
     record {
-      inside = omega (arith, long, within, c.strided_dims.ensures.count, ap size_of c.strided_dims.ensures.dims, c.elements_of-count.ensures.count);
+      inside = omega (arith, long, within, c.requires.counted);
       read = added ∙ ap (λ (front : List ℤ). front ++ next) c.loop-numbers.invariant.read ∙ sym (take-add k m xs) ∙ ap (λ (n : ℕ). take n xs) (sym long);
       in_range = subst (All (InRange c.args.window.now.ty)) (sym added) (All-append (InRange c.args.window.now.ty) c.loop-numbers.numbers.items next c.loop-numbers.invariant.in_range c.in_ok-read_more.ensures.in_range);
     }

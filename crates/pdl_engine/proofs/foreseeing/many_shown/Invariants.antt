@@ -1,7 +1,7 @@
 -- The elements before the next ones are read.
 use Rattle.std.proofs.Common.{◌≡◌, ◌≤◌, ◌-◌, All, length, take, vec_len}
 use Rattle.pdl_elem.specs.Types.{InRange}
-use Rattle.pdl_engine.proofs.foreseeing.all_shown.Given as goal
+use Rattle.pdl_engine.proofs.foreseeing.many_shown.Given as goal
 
 abbrev pub invariant-loop-numbers : goal.invariant-loop-numbers
 invariant-loop-numbers l = record {
